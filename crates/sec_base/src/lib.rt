@@ -1,0 +1,13 @@
+//! Where files come from and where text goes: shelves of named files and sinks of bytes, each with a count of its
+//! faults. Code over them can give up only where such a count rose, so a body that fails by itself is refused.
+//! With them stand shelves and sinks in memory for tests, sure ones that never fail, and the adapters over real
+//! files and streams.
+#![tactic(auto)]
+
+mod fault;
+mod shelf;
+mod sink;
+
+pub use fault::{Failed, LoadFault, Memory, StoreFault};
+pub use shelf::Shelf;
+pub use sink::Sink;
