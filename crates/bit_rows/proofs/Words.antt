@@ -5,12 +5,8 @@ use Rattle.std.specs.Int.{bit_at}
 use Rattle.std.proofs.lemmas.List.{get_or-set_same, get_or-set_other, length-set}
 use Rattle.std.proofs.lemmas.List.FromFn.{get_or-map-range_with_len, length-map-range_with_len, fill_by_all}
 use Rattle.std.proofs.lemmas.Simd.{length-replicate, get_or-replicate}
-use Rattle.std.proofs.lemmas.Nat.Bits.{bit_at-zero, bit_at-lt, bit_at_and, bit_at_not}
-use Rattle.std.proofs.lemmas.Bool.Decides.{nat_tests}
-use Rattle.std.specs.Int.{w64, bit_not}
-use Rattle.std.specs.Prelude.{bit_and}
-use Rattle.std.proofs.Common.{not, ◌&&◌, ◌^◌}
-use Rattle.bit_rows.specs.Rows.{row_bits, word_bit}
+use Rattle.std.proofs.lemmas.Nat.Bits.{bit_at-zero}
+use Rattle.bit_rows.specs.Words.{row_bits, word_bit, AreWordsFor}
 
 pub row_length : (ws : List ℕ) (n : ℕ) → length (row_bits ws n) ≡ n
 unfolding row_bits
@@ -36,7 +32,7 @@ row_zeros ws n m e h = row_is ws n (replicate n false) (length-replicate n false
 pub row_room : (ws : List ℕ) (n i : ℕ) (bs : List Bool) → row_bits ws n ≡ bs → i < length bs → i < n
 row_room ws n i bs e h = omega (arith, row_length ws n, ap length e)
 
-set_at : (ws : List ℕ) (n i w : ℕ) (bit : Bool) → n ≤ 64 * length ws → i < n → (bit_at w (i % 64) == 1) ≡ bit
+set_at : (ws : List ℕ) (n i w : ℕ) (bit : Bool) → AreWordsFor ws n → i < n → (bit_at w (i % 64) == 1) ≡ bit
     → ((k : ℕ) → k < 64 → k ≢ i % 64 → bit_at w k ≡ bit_at (get_or ws (i / 64) 0) k)
     → (k : ℕ) → k < n → (k ≡ i) ⊎ (k ≢ i) → (k / 64 ≡ i / 64) ⊎ (k / 64 ≢ i / 64)
     → get_or (set (row_bits ws n) i bit) k false ≡ word_bit (set ws (i / 64) w) k
@@ -56,20 +52,11 @@ set_at ws n i w bit room lt same others k kn (inr ne) (inr away) =
     ∙ ap (λ (v : ℕ). bit_at v (k % 64) == 1) (sym (get_or-set_other ws (i / 64) (k / 64) w 0 away))
 
 -- one word changed at one bit
-pub row_set : (ws : List ℕ) (n i w : ℕ) (bit : Bool) → n ≤ 64 * length ws → i < n → (bit_at w (i % 64) == 1) ≡ bit
+pub row_set : (ws : List ℕ) (n i w : ℕ) (bit : Bool) → AreWordsFor ws n → i < n → (bit_at w (i % 64) == 1) ≡ bit
     → ((k : ℕ) → k < 64 → k ≢ i % 64 → bit_at w k ≡ bit_at (get_or ws (i / 64) 0) k)
     → row_bits (set ws (i / 64) w) n ≡ set (row_bits ws n) i bit
 row_set ws n i w bit room lt same others = row_is (set ws (i / 64) w) n (set (row_bits ws n) i bit) (length-set (row_bits ws n) i bit ∙ row_length ws n) (λ k kn. set_at ws n i w bit room lt same others k kn (cases_eq k i) (cases_eq (k / 64) (i / 64)))
 
-pub lane_and : (a b k : ℕ) → (bit_at (bit_and a b) k == 1) ≡ ((bit_at a k == 1) && (bit_at b k == 1))
-lane_and a b k =
-    let x = bit_at-lt a k in
-    let y = bit_at-lt b k in
-    let m = bit_at_and a b k in
-    grind (arith, nat_tests)
-
-pub lane_not : (a k : ℕ) → a < 2 ^ 64 → k < 64 → (bit_at (bit_not w64 a) k == 1) ≡ not (bit_at a k == 1)
-lane_not a k small lt =
-    let x = bit_at-lt a k in
-    let m = bit_at_not w64 a k small lt in
-    grind (arith, nat_tests)
+-- rows of one length have equally many words
+pub same_words : (ws vs : List ℕ) (n m : ℕ) (xs ys : List Bool) → row_bits ws n ≡ xs → row_bits vs m ≡ ys → length xs ≡ length ys → n ≡ m
+same_words ws vs n m xs ys p q e = omega (arith, row_length ws n, row_length vs m, ap length p, ap length q, e)
