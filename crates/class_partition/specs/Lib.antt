@@ -1,0 +1,4 @@
+pub mod Classes
+pub mod Laws
+pub mod Rows
+pub mod Steps

@@ -1,0 +1,152 @@
+ghost use Rattle.std.specs.Prelude.{◌≡◌, ◌<◌, ◌≤◌, ◌+◌, ◌/◌, ◌↔◌, ℕ, IsTrue, length, IfOk};
+ghost use Rattle.class_partition.specs.Classes.{least_of, phase_of, AreTogether, Pairs, one_class, class_count, split_of, HoldIn, IsNextNeeded};
+
+use crate::split::split_places;
+use bit_rows::BitRow;
+use circ_model::Lit;
+use std::alloc::{AllocError, Global};
+use std::marker::Model;
+
+/// A partition of the places of a pair into classes, each place with a phase: two places of a class are equal up to the
+/// complement that their phases tell. Contracts see it as the least place of each place's class, and the phases.
+#[derive(Drop)]
+pub struct Classes {
+    least: Vec<u32>,
+    phase: BitRow,
+    other: Vec<u32>,
+    count: u32,
+}
+
+impl Model for Classes {
+    ghost use Rattle.std.specs.Prelude.{◌≡◌, length};
+    ghost use Rattle.class_partition.specs.Classes.{Classes, ArePartition, class_count};
+
+    ghost Value = { Classes };
+
+    ghost view = { λ c. record { least = c.least.items; phase = c.phase } };
+
+    ghost invariant = { λ c. ArePartition (length c.least.items) (record { least = c.least.items; phase = c.phase })
+        × (length c.other.items ≡ length c.least.items)
+        × (c.count ≡ class_count (length c.least.items) (record { least = c.least.items; phase = c.phase })) };
+}
+
+/// A place that isn't the least of its class, with that least place: two signals whose equality, up to their relative phase,
+/// has to be proved.
+#[derive(Clone, Copy, PartialEq, Eq, Debug)]
+pub struct Needed {
+    /// The least place of the class.
+    pub rep: u32,
+    /// The place.
+    pub member: u32,
+}
+
+impl Classes {
+    /// One class of all places, with these phases.
+    pub fn one_class(alloc: Global, phases: &BitRow) -> Result<Classes, AllocError>
+        ensures one { IfOk result (λ c. c ≡ one_class phases.now) }
+    {
+        let n = phases.len();
+        let least = vec![in alloc; 0u32; n as usize]?;
+        let other = vec![in alloc; 0u32; n as usize]?;
+        let mut phase = BitRow::with_len(alloc, n)?;
+        phase.copy_from(phases);
+        let count = if n == 0 { 0 } else { 1 };
+        Ok(Classes {
+            least,
+            phase,
+            other,
+            count,
+        })
+    }
+
+    /// The number of places.
+    pub fn len(&self) -> u32
+        ensures { result ≡ length self.now.least }
+    {
+        self.phase.len()
+    }
+
+    /// The least place of this place's class, its representative.
+    pub fn rep(&self, place: u32) -> u32
+        requires place { place < length self.now.least }
+        ensures { result ≡ least_of self.now place }
+    {
+        self.least[place as usize]
+    }
+
+    /// The phase of a place: two places of a class are equal where their phases are, and else complements.
+    pub fn phase(&self, place: u32) -> bool
+        requires place { place < length self.now.least }
+        ensures { result ≡ phase_of self.now place }
+    {
+        self.phase.get(place)
+    }
+
+    /// Whether two places are in one class.
+    pub fn same(&self, a: u32, b: u32) -> bool
+        requires a { a < length self.now.least }
+        requires b { b < length self.now.least }
+        ensures { IsTrue result ↔ AreTogether self.now a b }
+    {
+        self.least[a as usize] == self.least[b as usize]
+    }
+
+    /// Whether two literals of the pair are of one class and, by the phases, equal.
+    pub fn paired(&self, a: Lit, b: Lit) -> bool
+        requires a { a / 2 < length self.now.least }
+        requires b { b / 2 < length self.now.least }
+        ensures { IsTrue result ↔ Pairs self.now a b }
+    {
+        let left = self.phase.get(a.var()) != a.is_complement();
+        let right = self.phase.get(b.var()) != b.is_complement();
+        self.same(a.var(), b.var()) && left == right
+    }
+
+    /// The number of classes.
+    pub fn count(&self) -> u32
+        ensures { result ≡ class_count (length self.now.least) self.now }
+    {
+        self.count
+    }
+
+    /// The needed pair with the least member at or past a place, or none.
+    pub fn next_pair(&self, from: u32) -> Option<Needed>
+        ensures { IsNextNeeded self.now from result }
+    {
+        for member in from..self.phase.len() {
+            let rep = self.least[member as usize];
+            if rep != member {
+                return Some(Needed { rep, member });
+            }
+        }
+        None
+    }
+
+    /// An equal partition.
+    pub fn copy(&self, alloc: Global) -> Result<Classes, AllocError>
+        ensures same { IfOk result (λ c. c ≡ self.now) }
+    {
+        let mut phase = BitRow::with_len(alloc, self.phase.len())?;
+        phase.copy_from(&self.phase);
+        Ok(Classes {
+            least: self.least.clone()?,
+            phase,
+            other: self.other.clone()?,
+            count: self.count,
+        })
+    }
+
+    /// Splits the classes by a row: two places stay together exactly where they were and their bits, each with its phase,
+    /// are equal. Answers how many classes that adds.
+    pub fn split_by(&mut self, row: &BitRow) -> u32
+        requires row { length row.now ≡ length self.old.least }
+        ensures split { self.new ≡ split_of (length self.old.least) self.old row.now }
+        ensures count { class_count (length self.old.least) self.new ≡ class_count (length self.old.least) self.old + result }
+        ensures none { result ≡ 0 → (self.new ≡ self.old) × HoldIn (length self.old.least) self.old row.now }
+    {
+        let _places = self.phase.len();
+        let added = split_places(&mut self.least, &self.phase, row, &mut self.other);
+        self.count += added;
+        added
+    }
+}

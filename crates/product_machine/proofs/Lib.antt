@@ -1,0 +1,9 @@
+pub mod Sides
+pub mod Follow
+pub mod Unique
+pub mod Copies
+pub mod Reading
+pub mod Size
+pub mod OneRow
+pub mod TableRead
+pub mod Tabling

@@ -1,0 +1,5 @@
+pub mod Cells
+pub mod Eval
+pub mod Faults
+pub mod Laws
+pub mod Tables

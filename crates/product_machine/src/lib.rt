@@ -1,0 +1,13 @@
+//! A pair of netlists on shared inputs as one machine: what stands at each place, what the places' values are in each
+//! frame of a path, and what those values obey.
+#![tactic(auto)]
+
+mod build;
+mod cell;
+mod laws;
+mod product;
+mod rows;
+
+pub use cell::Cell;
+pub use laws::{cells_of_pairs, paths_of_values, values_of_cells};
+pub use product::{PairFault, Product};
