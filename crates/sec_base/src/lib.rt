@@ -7,7 +7,9 @@
 mod fault;
 mod shelf;
 mod sink;
+mod text;
 
 pub use fault::{Failed, LoadFault, Memory, StoreFault};
 pub use shelf::Shelf;
 pub use sink::Sink;
+pub use text::write_text;
