@@ -1,8 +1,8 @@
 -- Pieces of a text that a sink takes one after another.
 use Rattle.std.specs.Prelude.{◌≡◌, ℕ, ◌+◌, ◌-◌, ◌<◌, ◌≤◌, List, [], ◌++◌, length, take, drop, Option, None, Some}
-use Rattle.std.proofs.Common.{refl, ap, ◌∙◌, sym, arith, append_assoc, append-nil, length-drop}
-use Rattle.std.proofs.Math.Seq.{take-add}
-use Rattle.std.proofs.lemmas.List.{take_all, drop-drop}
+use Rattle.std.proofs.Common.{refl, ap, ◌∙◌, sym, arith, append_assoc, append-nil, length-append, length-drop}
+use Rattle.std.proofs.Math.Seq.{take-add, take-append-add}
+use Rattle.std.proofs.lemmas.List.{take_all, drop-drop, take-append-le}
 use Rattle.sec_base.specs.Faults.{appended, IsCutShort}
 
 pub appended_none : {T : Type 0} (told : Option (List T)) → appended told [] ≡ told
@@ -41,3 +41,16 @@ remains_none before bytes rest after r none = r.taken ∙ ap (appended before) (
 
 pub remains_cut : (before : Option (List ℕ)) (bytes rest : List ℕ) (after : Option (List ℕ)) → Remains before bytes rest after → 0 < length rest → IsCutShort before bytes after
 remains_cut before bytes rest after r some = (r.count, omega (arith, ap length r.left, length-drop r.count bytes), r.taken)
+
+-- cut short in the first of two pieces
+pub cut_first : (before : Option (List ℕ)) (xs ys : List ℕ) (after : Option (List ℕ)) → IsCutShort before xs after → IsCutShort before (xs ++ ys) after
+cut_first before xs ys after (count, less, taken) =
+    (count, omega (arith, length-append xs ys), taken ∙ ap (appended before) (sym (take-append-le count xs ys (omega arith))))
+
+-- cut short in the second
+pub cut_second : (before between : Option (List ℕ)) (xs ys : List ℕ) (after : Option (List ℕ)) → between ≡ appended before xs → IsCutShort between ys after → IsCutShort before (xs ++ ys) after
+cut_second before between xs ys after all (count, less, taken) = (
+  length xs + count,
+  omega (arith, length-append xs ys),
+  taken ∙ ap (λ t. appended t (take count ys)) all ∙ appended_twice before xs (take count ys) ∙ ap (appended before) (sym (take-append-add xs ys count)),
+)

@@ -5,11 +5,13 @@
 #![tactic(auto)]
 
 mod fault;
+mod number;
 mod shelf;
 mod sink;
 mod text;
 
 pub use fault::{Failed, LoadFault, Memory, StoreFault};
+pub use number::write_number;
 pub use shelf::Shelf;
 pub use sink::Sink;
 pub use text::write_text;
