@@ -5,12 +5,14 @@
 #![tactic(auto)]
 
 mod fault;
+mod mem_sink;
 mod number;
 mod shelf;
 mod sink;
 mod text;
 
 pub use fault::{Failed, LoadFault, Memory, StoreFault};
+pub use mem_sink::MemSink;
 pub use number::write_number;
 pub use shelf::Shelf;
 pub use sink::Sink;
