@@ -1,0 +1,3 @@
+pub mod Arena
+pub mod Clauses
+pub mod Laws
