@@ -1,5 +1,5 @@
 use Rattle.std.proofs.Common.{rules, arith, ◌≡◌, ◌∙◌, ◌++◌, ◌∷◌, [], ◌+◌, ℕ, List, length, ap, sym, subst, length-append}
-use Rattle.cnf_store.specs.Arena.{pieces, Rises}
+use Rattle.cnf_store.specs.Arena.{Rises}
 use Rattle.cnf_store.proofs.Cutting.{pieces_added, rises_more}
 use Rattle.cnf_store.proofs.arena.Arena.add.Goals as goal
 

@@ -1,6 +1,6 @@
 use Rattle.std.proofs.Common.{◌≡◌, ◌∙◌, ◌≤◌, ℕ, List, length, take, ap, sym, subst, arith}
 use Rattle.std.proofs.lemmas.List.{length-take-le}
-use Rattle.cnf_store.specs.Arena.{pieces, Rises, start_at}
+use Rattle.cnf_store.specs.Arena.{Rises, start_at}
 use Rattle.cnf_store.proofs.Cutting.{length_pieces, rises_cut, pieces_kept, start_le}
 use Rattle.cnf_store.proofs.arena.Arena.cut.Goals as goal
 
