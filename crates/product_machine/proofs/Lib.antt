@@ -7,3 +7,4 @@ pub mod Size
 pub mod OneRow
 pub mod TableRead
 pub mod Tabling
+pub mod States

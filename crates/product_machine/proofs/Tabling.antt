@@ -9,14 +9,16 @@ use Rattle.circ_model.specs.declared.netlist.Gate.{Gate}
 use Rattle.product_machine.specs.declared.cell.Cell.{Cell}
 use Rattle.product_machine.specs.declared.cell.Cell.TheVariants.{Held, Product}
 use Rattle.circ_model.specs.Netlist.{Netlist, IsSound, AllDefined, IsDefined, variables, no_gate}
-use Rattle.circ_model.specs.Meaning.{Pair, is_odd, literal as literal_of, IsSoundPair, literal_by, left_place, right_place, left_literal, right_literal}
-use Rattle.circ_model.specs.Netlist.{own}
+use Rattle.circ_model.specs.Meaning.{Pair, is_odd, literal as literal_of, IsSoundPair, literal_by, left_place, right_place, left_literal, right_literal, outputs_of}
 use Rattle.product_machine.specs.Cells.{own_cells, latch_cell, gate_cell}
 use Rattle.circ_model.proofs.Order.{gate_variable}
 use Rattle.circ_model.proofs.Rows.{length_leaves}
 use Rattle.product_machine.proofs.Sides.{no_latch}
 use Rattle.circ_model.proofs.Rows.{left_at, right_at}
-use Rattle.product_machine.specs.Tables.{IsTable, moved, says}
+use Rattle.product_machine.specs.Tables.{IsTable, AreTables, outputs_by, moved, says}
+use Rattle.product_machine.specs.States.{output_pair, output_pairs}
+use Rattle.std.specs.List.{range_with_len}
+use Rattle.std.proofs.lemmas.List.FromFn.{length-range_with_len, get_or-range_with_len}
 
 pub last_variable : (net : Netlist) (gates : List Gate) (g : Gate) (q k : ℕ) → gates ≡ net.gates → q ≡ 1 + length net.inputs + length net.latches + k → k < length gates → (get_or gates k g).var ≡ get_or (variables net) q 0
 last_variable net gates g q k e at lt =
@@ -41,41 +43,74 @@ pub place_high : (net : Netlist) (shift q : ℕ) → 1 + length net.inputs ≤ q
 place_high net shift q le = sym (ap (λ (b : Bool). if b then q else q + shift) (le-ltb q (1 + length net.inputs) le))
 
 -- the cells of a netlist by its table
-map_same : {X Y : Type 0} (f h : X → Y) (xs : List X) (d : X) → ((k : ℕ) → k < length xs → f (get_or xs k d) ≡ h (get_or xs k d)) → map f xs ≡ map h xs
+pub map_same : {X Y : Type 0} (f h : X → Y) (xs : List X) (d : X) → ((k : ℕ) → k < length xs → f (get_or xs k d) ≡ h (get_or xs k d)) → map f xs ≡ map h xs
 map_same f h [] d e = refl
 map_same f h (x ∷ xs) d e = ap₂ (λ y ys. y ∷ ys) (e 0 (omega arith)) (map_same f h xs d (λ k lt. e (suc k) (omega arith)))
 
--- two ways to place variables that agree on those that are there
-pub same_cells : (net : Netlist) (f h : ℕ → ℕ) → AllDefined net → ((q : ℕ) → q < length (variables net) → f (get_or (variables net) q 0) ≡ h (get_or (variables net) q 0)) → own_cells (literal_by f) net ≡ own_cells (literal_by h) net
+defined_within : (net : Netlist) (n lit : ℕ) → IsSound net → n ≡ net.max_var + 1 → IsDefined net lit → lit / 2 < n
+defined_within net n lit sound e (q, lt, is) = let h = sound.in_range q (lit / 2) lt in omega arith
+
+-- two ways to place variables agree on those that are there
+abbrev pub AgreeOn : Netlist → (ℕ → ℕ) → (ℕ → ℕ) → Type 0
+AgreeOn net f h = (q : ℕ) → q < length (variables net) → f (get_or (variables net) q 0) ≡ h (get_or (variables net) q 0)
+
+-- and so on each literal that is used
+same_literal : (net : Netlist) (f h : ℕ → ℕ) (lit : ℕ) → AgreeOn net f h → IsDefined net lit → literal_by f lit ≡ literal_by h lit
+same_literal net f h lit same (q, within, is) =
+    let e : get_or (variables net) q 0 ≡ lit / 2 = get_or_default (variables net) q 0 (lit / 2) within ∙ is in
+    ap (λ (p : ℕ). literal_of p (is_odd lit)) (subst (λ (v : ℕ). f v ≡ h v) e (same q within))
+
+same_cells : (net : Netlist) (f h : ℕ → ℕ) → AllDefined net → AgreeOn net f h → own_cells (literal_by f) net ≡ own_cells (literal_by h) net
 same_cells net f h defined same =
     ap₂ (λ (xs ys : List Cell). xs ++ ys)
-    (map_same (latch_cell (literal_by f)) (latch_cell (literal_by h)) net.latches no_latch (λ k lt. ap (Held (get_or net.latches k no_latch).reset) (literal (get_or net.latches k no_latch).next (defined.latches k no_latch lt))))
-    (map_same (gate_cell (literal_by f)) (gate_cell (literal_by h)) net.gates no_gate (λ k lt. let d = defined.gates k no_gate lt in ap₂ Product (literal (get_or net.gates k no_gate).left d.0) (literal (get_or net.gates k no_gate).right d.1)))
+    (map_same (latch_cell (literal_by f)) (latch_cell (literal_by h)) net.latches no_latch (λ k lt. ap (Held (get_or net.latches k no_latch).reset) (same_literal net f h (get_or net.latches k no_latch).next same (defined.latches k no_latch lt))))
+    (map_same (gate_cell (literal_by f)) (gate_cell (literal_by h)) net.gates no_gate (λ k lt. let d = defined.gates k no_gate lt in ap₂ Product (same_literal net f h (get_or net.gates k no_gate).left same d.0) (same_literal net f h (get_or net.gates k no_gate).right same d.1)))
+
+same_nexts : (net : Netlist) (f h : ℕ → ℕ) → AllDefined net → AgreeOn net f h → map (λ (l : Latch). literal_by f l.next) net.latches ≡ map (λ (l : Latch). literal_by h l.next) net.latches
+same_nexts net f h defined same = map_same (λ (l : Latch). literal_by f l.next) (λ (l : Latch). literal_by h l.next) net.latches no_latch (λ k lt. same_literal net f h (get_or net.latches k no_latch).next same (defined.latches k no_latch lt))
+
+left_agrees : (pair : Pair) (left right : List ℕ) → IsSoundPair pair → AreTables pair left right → AgreeOn pair.left (says left) (left_place pair)
+left_agrees pair left right is t q lt =
+    t.is_left.at q lt lt ∙ ⊎_elim (λ (h : q < 1 + length pair.left.inputs). sym (place_low pair.left 0 q h)) (λ (h : 1 + length pair.left.inputs ≤ q). sym (place_high pair.left 0 q h) ∙ (let z : q + 0 ≡ q = omega arith in z)) (cases_lt q (1 + length pair.left.inputs))
+    ∙ sym (left_at pair q is lt)
+
+right_agrees : (pair : Pair) (left right : List ℕ) → IsSoundPair pair → AreTables pair left right → AgreeOn pair.right (says right) (right_place pair)
+right_agrees pair left right is t q lt = t.is_right.at q lt lt ∙ sym (right_at pair q is lt)
+
+pub left_cells : (pair : Pair) (left right : List ℕ) → IsSoundPair pair → AreTables pair left right → own_cells (literal_by (says left)) pair.left ≡ own_cells (left_literal pair) pair.left
+left_cells pair left right is t = same_cells pair.left (says left) (left_place pair) is.left.all_defined (left_agrees pair left right is t)
+
+pub right_cells : (pair : Pair) (left right : List ℕ) → IsSoundPair pair → AreTables pair left right → own_cells (literal_by (says right)) pair.right ≡ own_cells (right_literal pair) pair.right
+right_cells pair left right is t = same_cells pair.right (says right) (right_place pair) is.right.all_defined (right_agrees pair left right is t)
+
+pub left_nexts : (pair : Pair) (left right : List ℕ) → IsSoundPair pair → AreTables pair left right → map (λ (l : Latch). literal_by (says left) l.next) pair.left.latches ≡ map (λ (l : Latch). left_literal pair l.next) pair.left.latches
+left_nexts pair left right is t = same_nexts pair.left (says left) (left_place pair) is.left.all_defined (left_agrees pair left right is t)
+
+pub right_nexts : (pair : Pair) (left right : List ℕ) → IsSoundPair pair → AreTables pair left right → map (λ (l : Latch). literal_by (says right) l.next) pair.right.latches ≡ map (λ (l : Latch). right_literal pair l.next) pair.right.latches
+right_nexts pair left right is t = same_nexts pair.right (says right) (right_place pair) is.right.all_defined (right_agrees pair left right is t)
+
+-- the outputs by their tables
+pub outputs_are : (pair : Pair) (left right : List ℕ) → IsSoundPair pair → AreTables pair left right → outputs_by (says left) (says right) pair.left.outputs pair.right.outputs ≡ output_pairs pair
+outputs_are pair left right is t = map_same by_tables (output_pair pair) (range_with_len 0 (outputs_of pair)) 0 (λ k lt.
+    let short : k < outputs_of pair = omega (arith, length-range_with_len 0 (outputs_of pair)) in
+    let e : k ≡ get_or (range_with_len 0 (outputs_of pair)) k 0 = sym (get_or-range_with_len 0 (outputs_of pair) k 0 short ∙ omega arith) in
+    subst (λ (j : ℕ). by_tables j ≡ output_pair pair j) e (one k short))
   where
-    literal : (lit : ℕ) → IsDefined net lit → literal_by f lit ≡ literal_by h lit
-    literal lit (q, within, is) =
-        let e : get_or (variables net) q 0 ≡ lit / 2 = get_or_default (variables net) q 0 (lit / 2) within ∙ is in
-        ap (λ (p : ℕ). literal_of p (is_odd lit)) (subst (λ (v : ℕ). f v ≡ h v) e (same q within))
+    by_tables : ℕ → ℕ × ℕ
+    by_tables j = (literal_by (says left) (get_or pair.left.outputs j 0), literal_by (says right) (get_or pair.right.outputs j 0))
 
-pub left_cells : (pair : Pair) (n : ℕ) (table : List ℕ) → IsSoundPair pair → n ≡ length (variables pair.left) → IsTable pair.left 0 n table → own_cells (literal_by (says table)) pair.left ≡ own_cells (left_literal pair) pair.left
-left_cells pair n table is e t =
-    same_cells pair.left (says table) (left_place pair) is.left.all_defined
-    (λ q lt. t.at q (omega arith) lt ∙ ⊎_elim (λ (h : q < 1 + length pair.left.inputs). sym (place_low pair.left 0 q h)) (λ (h : 1 + length pair.left.inputs ≤ q). sym (place_high pair.left 0 q h) ∙ (let z : q + 0 ≡ q = omega arith in z)) (cases_lt q (1 + length pair.left.inputs))
-    ∙ sym (left_at pair q is lt))
+    one : (j : ℕ) → j < outputs_of pair → by_tables j ≡ output_pair pair j
+    one j lt =
+        let same = is.outputs in
+        ap₂ (λ (a b : ℕ). (a, b)) (same_literal pair.left (says left) (left_place pair) (get_or pair.left.outputs j 0) (left_agrees pair left right is t) (is.left.all_defined.outputs j 0 lt))
+        (same_literal pair.right (says right) (right_place pair) (get_or pair.right.outputs j 0) (right_agrees pair left right is t) (is.right.all_defined.outputs j 0 (omega arith)))
 
-pub right_cells : (pair : Pair) (n : ℕ) (table : List ℕ) → IsSoundPair pair → n ≡ length (variables pair.right) → IsTable pair.right (length (own pair.left)) n table → own_cells (literal_by (says table)) pair.right ≡ own_cells (right_literal pair) pair.right
-right_cells pair n table is e t =
-    same_cells pair.right (says table) (right_place pair) is.right.all_defined (λ q lt. t.at q (omega arith) lt ∙ sym (right_at pair q is lt))
+pub output_within : (net : Netlist) (n : ℕ) → IsSound net → n ≡ net.max_var + 1 → All (λ (o : ℕ). o / 2 < n) net.outputs
+output_within net n sound e k d lt = defined_within net n (get_or net.outputs k d) sound e (sound.all_defined.outputs k d lt)
 
 -- each literal of a netlist is within its table
 pub next_within : (net : Netlist) (n : ℕ) → IsSound net → n ≡ net.max_var + 1 → All (λ (l : Latch). l.next / 2 < n) net.latches
-next_within net n sound e k d lt = within net n (get_or net.latches k d).next sound e (sound.all_defined.latches k d lt)
-  where
-    within : (net : Netlist) (n lit : ℕ) → IsSound net → n ≡ net.max_var + 1 → IsDefined net lit → lit / 2 < n
-    within net n lit sound e (q, lt, is) = let h = sound.in_range q (lit / 2) lt in omega arith
-
-defined_within : (net : Netlist) (n lit : ℕ) → IsSound net → n ≡ net.max_var + 1 → IsDefined net lit → lit / 2 < n
-defined_within net n lit sound e (q, lt, is) = let h = sound.in_range q (lit / 2) lt in omega arith
+next_within net n sound e k d lt = defined_within net n (get_or net.latches k d).next sound e (sound.all_defined.latches k d lt)
 
 pub left_within : (net : Netlist) (n : ℕ) → IsSound net → n ≡ net.max_var + 1 → All (λ (g : Gate). g.left / 2 < n) net.gates
 left_within net n sound e k d lt = defined_within net n (get_or net.gates k d).left sound e (sound.all_defined.gates k d lt).0

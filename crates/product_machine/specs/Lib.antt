@@ -3,3 +3,4 @@ pub mod Eval
 pub mod Faults
 pub mod Laws
 pub mod Tables
+pub mod States

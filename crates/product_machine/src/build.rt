@@ -5,7 +5,8 @@ ghost use Rattle.circ_model.specs.Meaning.{literal_by, IsSoundPair};
 ghost use Rattle.circ_model.specs.Netlist.{own};
 ghost use Rattle.product_machine.specs.declared.cell.Cell.TheVariants.{Low, Given};
 ghost use Rattle.product_machine.specs.Cells.{own_cells, latch_cell, gate_cell, cells};
-ghost use Rattle.product_machine.specs.Tables.{IsTable, moved, says};
+ghost use Rattle.product_machine.specs.Tables.{IsTable, AreTables, outputs_by, moved, says};
+ghost use Rattle.product_machine.specs.States.{nexts, output_pairs};
 
 use crate::Cell;
 use aig_graph::Netlist;
@@ -95,15 +96,10 @@ fn push_gates(cells: &mut Vec<Cell>, gates: &[Gate], table: &[u32]) -> Result<()
 }
 
 // A side's latches and gates.
-fn push_side(
-    cells: &mut Vec<Cell>,
-    net: &Netlist,
-    table: &[u32],
-    n: u32,
-    shift: u32,
-) -> Result<(), AllocError>
+fn push_side(cells: &mut Vec<Cell>, net: &Netlist, table: &[u32]) -> Result<(), AllocError>
     requires sound { IsSound net.now }
-    requires table { IsTable net.now shift n table.now }
+    requires size { length table.now ≡ net.now.max_var + 1 }
+    requires room { All (λ p. p < 2147483648) table.now }
     ensures { OnOk result (cells.new.items ≡ cells.old.items ++ own_cells (literal_by (says table.now)) net.now) }
 {
     push_latches(cells, net.latches(), table)?;
@@ -147,23 +143,119 @@ fn variable_count(net: &Netlist) -> u32
     1 + net.inputs().len() as u32 + own_count(net)
 }
 
+// The next literals of latches.
+fn push_nexts(nexts: &mut Vec<Lit>, latches: &[Latch], table: &[u32]) -> Result<(), AllocError>
+    requires within { All (λ l. l.next / 2 < length table.now) latches.now }
+    requires room { All (λ p. p < 2147483648) table.now }
+    ensures { OnOk result (nexts.new.items ≡ nexts.old.items ++ map (λ l. literal_by (says table.now) l.next) latches.now) }
+{
+    for latch in latches {
+        nexts.push(translated(table, latch.next))?;
+    }
+    Ok(())
+}
+
+// The outputs of both sides.
+fn push_outputs(
+    outputs: &mut Vec<(Lit, Lit)>,
+    left: &[Lit],
+    right: &[Lit],
+    left_table: &[u32],
+    right_table: &[u32],
+) -> Result<(), AllocError>
+    requires none { outputs.old.items ≡ [] }
+    requires same { length right.now ≡ length left.now }
+    requires left_within { All (λ o. o / 2 < length left_table.now) left.now }
+    requires right_within { All (λ o. o / 2 < length right_table.now) right.now }
+    requires left_room { All (λ p. p < 2147483648) left_table.now }
+    requires right_room { All (λ p. p < 2147483648) right_table.now }
+    ensures { OnOk result (outputs.new.items ≡ outputs_by (says left_table.now) (says right_table.now) left.now right.now) }
+{
+    for j in 0..left.len() {
+        let first = translated(left_table, left[j]);
+        let second = translated(right_table, right[j]);
+        outputs.push((first, second))?;
+    }
+    Ok(())
+}
+
+// The place of each variable of both sides.
+#[derive(Drop)]
+pub(crate) struct Tables {
+    left: Vec<u32>,
+    right: Vec<u32>,
+}
+
+pub(crate) fn tables_of(
+    alloc: Global,
+    left: &Netlist,
+    right: &Netlist,
+) -> Result<Tables, AllocError>
+    requires { IsSoundPair (record { left = left.now; right = right.now }) }
+    ensures { IfOk result (λ t. AreTables (record { left = left.now; right = right.now }) t.left.items t.right.items) }
+{
+    let lefts = variable_count(left);
+    let rights = variable_count(right);
+    let shift = own_count(left);
+    Ok(Tables {
+        left: place_table(alloc, left, lefts, 0)?,
+        right: place_table(alloc, right, rights, shift)?,
+    })
+}
+
 // The cells of a pair.
 pub(crate) fn cells_of(
     alloc: Global,
     left: &Netlist,
     right: &Netlist,
+    tables: &Tables,
 ) -> Result<Vec<Cell>, AllocError>
-    requires { IsSoundPair (record { left = left.now; right = right.now }) }
+    requires sound { IsSoundPair (record { left = left.now; right = right.now }) }
+    requires tables { AreTables (record { left = left.now; right = right.now }) tables.now.left.items tables.now.right.items }
     ensures { IfOk result (λ v. v.items ≡ cells (record { left = left.now; right = right.now })) }
 {
-    let lefts = variable_count(left);
-    let rights = variable_count(right);
-    let shift = own_count(left);
-    let left_table = place_table(alloc, left, lefts, 0)?;
-    let right_table = place_table(alloc, right, rights, shift)?;
     let mut table = Vec::new(alloc);
     push_shared(&mut table, left.inputs())?;
-    push_side(&mut table, left, left_table.as_slice(), lefts, 0)?;
-    push_side(&mut table, right, right_table.as_slice(), rights, shift)?;
+    push_side(&mut table, left, tables.left.as_slice())?;
+    push_side(&mut table, right, tables.right.as_slice())?;
     Ok(table)
+}
+
+// The next literals of a pair's latches.
+pub(crate) fn nexts_of(
+    alloc: Global,
+    left: &Netlist,
+    right: &Netlist,
+    tables: &Tables,
+) -> Result<Vec<Lit>, AllocError>
+    requires sound { IsSoundPair (record { left = left.now; right = right.now }) }
+    requires tables { AreTables (record { left = left.now; right = right.now }) tables.now.left.items tables.now.right.items }
+    ensures { IfOk result (λ v. v.items ≡ nexts (record { left = left.now; right = right.now })) }
+{
+    let mut nexts = Vec::new(alloc);
+    push_nexts(&mut nexts, left.latches(), tables.left.as_slice())?;
+    push_nexts(&mut nexts, right.latches(), tables.right.as_slice())?;
+    Ok(nexts)
+}
+
+// The outputs of a pair.
+pub(crate) fn outputs_of(
+    alloc: Global,
+    left: &Netlist,
+    right: &Netlist,
+    tables: &Tables,
+) -> Result<Vec<(Lit, Lit)>, AllocError>
+    requires sound { IsSoundPair (record { left = left.now; right = right.now }) }
+    requires tables { AreTables (record { left = left.now; right = right.now }) tables.now.left.items tables.now.right.items }
+    ensures { IfOk result (λ v. v.items ≡ output_pairs (record { left = left.now; right = right.now })) }
+{
+    let mut outputs = Vec::new(alloc);
+    push_outputs(
+        &mut outputs,
+        left.outputs(),
+        right.outputs(),
+        tables.left.as_slice(),
+        tables.right.as_slice(),
+    )?;
+    Ok(outputs)
 }

@@ -1,17 +1,21 @@
 ghost use Rattle.std.specs.Prelude.{◌≡◌, ◌<◌, ◌≤◌, ◌+◌, ◌*◌, ◌/◌, ℕ, List, Bool, false, length};
 ghost use Rattle.circ_model.specs.Meaning.{bit};
-ghost use Rattle.circ_model.specs.Meaning.{IsSoundPair, row, places_of};
+ghost use Rattle.circ_model.specs.Meaning.{IsSoundPair, row, places_of, outputs_of, latches_of, resets, next_state, value_in};
+ghost use Rattle.circ_model.specs.declared.netlist.Reset.TheVariants.{Free};
+ghost use Rattle.product_machine.specs.States.{nexts, output_pair};
+ghost use Rattle.std.specs.Prelude.{map, slice_index, slice_index_or};
 ghost use Rattle.product_machine.specs.Cells.{EachAt};
 ghost use Rattle.product_machine.specs.Eval.{IsFrame, Ready};
 ghost use Rattle.product_machine.specs.Cells.{cells};
 ghost use Rattle.product_machine.specs.Faults.{Pairs};
 
 use crate::Cell;
-use crate::build::cells_of;
-use crate::rows::{both, copy_bits};
+use crate::build::{cells_of, nexts_of, outputs_of, tables_of};
+use crate::rows::{both, copy_bits, value_of};
 use aig_graph::Netlist;
 use bit_rows::BitRow;
-use std::alloc::Global;
+use circ_model::{Lit, Reset};
+use std::alloc::{AllocError, Global};
 use std::marker::Model;
 
 /// Two netlists on shared inputs, seen as the pair of them.
@@ -20,18 +24,24 @@ pub struct Product {
     left: Netlist,
     right: Netlist,
     table: Vec<Cell>,
+    next_literals: Vec<Lit>,
+    output_literals: Vec<(Lit, Lit)>,
 }
 
 impl Model for Product {
     ghost use Rattle.std.specs.Prelude.{◌≡◌};
     ghost use Rattle.circ_model.specs.Meaning.{Pair, IsSoundPair};
     ghost use Rattle.product_machine.specs.Cells.{cells};
+    ghost use Rattle.product_machine.specs.States.{nexts, output_pairs};
 
     ghost Value = { Pair };
 
     ghost view = { λ p. record { left = p.left; right = p.right } };
 
-    ghost invariant = { λ p. IsSoundPair (record { left = p.left; right = p.right }) × (p.table.items ≡ cells (record { left = p.left; right = p.right })) };
+    ghost invariant = { λ p. IsSoundPair (record { left = p.left; right = p.right })
+        × (p.table.items ≡ cells (record { left = p.left; right = p.right }))
+        × (p.next_literals.items ≡ nexts (record { left = p.left; right = p.right }))
+        × (p.output_literals.items ≡ output_pairs (record { left = p.left; right = p.right })) };
 }
 
 /// Why two netlists are no pair.
@@ -40,6 +50,16 @@ pub enum PairFault {
     Inputs(u32, u32),
     Outputs(u32, u32),
     Memory,
+}
+
+impl From<AllocError> for PairFault {
+    ghost use Rattle.product_machine.specs.declared.product.PairFault.TheVariants.{Memory};
+
+    ghost from_gives = { λ _ e. e ≡ Memory };
+
+    fn from(_: AllocError) -> PairFault {
+        PairFault::Memory
+    }
 }
 
 impl Product {
@@ -55,10 +75,14 @@ impl Product {
         if outputs.0 != outputs.1 {
             return Err(PairFault::Outputs(outputs.0, outputs.1));
         }
-        match cells_of(alloc, &left, &right) {
-            Ok(table) => Ok(Product { left, right, table }),
-            Err(_) => Err(PairFault::Memory),
-        }
+        let tables = tables_of(alloc, &left, &right)?;
+        Ok(Product {
+            table: cells_of(alloc, &left, &right, &tables)?,
+            next_literals: nexts_of(alloc, &left, &right, &tables)?,
+            output_literals: outputs_of(alloc, &left, &right, &tables)?,
+            left,
+            right,
+        })
     }
 
     /// Writes the value of each place.
@@ -104,11 +128,77 @@ impl Product {
         self.table.as_slice()
     }
 
-    /// The number of places.
-    pub fn len(&self) -> usize
-        ensures { result ≡ places_of self.now }
+    /// The number of places, which is that of the signals.
+    pub fn len(&self) -> u32
+        ensures places { result ≡ places_of self.now }
+        ensures few { result ≤ 2000001 }
     {
-        self.table.len()
+        self.table.len() as u32
+    }
+
+    /// The number of inputs, which both netlists share by position.
+    pub fn inputs(&self) -> u32
+        ensures { result ≡ length self.now.left.inputs }
+    {
+        self.left.inputs().len() as u32
+    }
+
+    /// The number of outputs, paired by position.
+    pub fn outputs(&self) -> u32
+        ensures { result ≡ outputs_of self.now }
+    {
+        self.output_literals.len() as u32
+    }
+
+    /// The number of latches of both netlists: the length of a state, in which the left netlist's stand first.
+    pub fn latches(&self) -> u32
+        ensures { result ≡ latches_of self.now }
+    {
+        self.next_literals.len() as u32
+    }
+
+    /// Output j of the left and of the right netlist, as literals of the pair.
+    pub fn output(&self, j: u32) -> (Lit, Lit)
+        requires { j < outputs_of self.now }
+        ensures { result ≡ output_pair self.now j }
+    {
+        self.output_literals[j as usize]
+    }
+
+    /// The reset of latch i of the state.
+    pub fn reset(&self, i: u32) -> Reset
+        requires { i < latches_of self.now }
+        ensures { result ≡ slice_index_or (resets self.now) i Free }
+    {
+        let lefts = self.left.latches().len();
+        let i = i as usize;
+        if i < lefts {
+            self.left.latches()[i].reset
+        } else {
+            self.right.latches()[i - lefts].reset
+        }
+    }
+
+    /// The next literal of latch i of the state, as a literal of the pair.
+    pub fn next(&self, i: u32) -> Lit
+        requires { i < latches_of self.now }
+        ensures { result ≡ slice_index (nexts self.now) i }
+    {
+        self.next_literals[i as usize]
+    }
+
+    /// Writes the state of the next frame from the values of this one: each latch gets its next literal's value.
+    pub fn next_state(&self, values: &BitRow, state: &mut BitRow)
+        requires values { length values.now ≡ places_of self.now }
+        requires state { length state.old ≡ latches_of self.now }
+        ensures values { state.new ≡ map (value_in values.now) (nexts self.now) }
+        ensures next { (inputs : List Bool) → IsFrame self.now state.old inputs → values.now ≡ row self.now state.old inputs
+            → state.new ≡ next_state self.now state.old inputs }
+    {
+        for i in 0..state.len() {
+            let bit = value_of(values, self.next_literals[i as usize]);
+            state.set(i, bit);
+        }
     }
 
     pub fn left(&self) -> &Netlist
