@@ -1,7 +1,17 @@
--- What a load says of the file under a name.
-use Rattle.std.specs.Prelude.{◌≡◌, ℕ, ◌+◌, ◌<◌, List, [], ◌∷◌, length, take, Option, Result, Err, IsSomeAnd}
+-- Files by name, and what a load says of one.
+use Rattle.std.specs.Prelude.{◌≡◌, ℕ, ◌+◌, ◌<◌, List, [], ◌∷◌, length, take, Option, option_map, bytes_eq, if◌then◌else◌, Result, Err, IsSomeAnd}
+use Rattle.std.specs.List.{find}
 use Rattle.sec_base.specs.declared.fault.LoadFault.{LoadFault}
 use Rattle.sec_base.specs.declared.fault.LoadFault.TheVariants.{Failed}
+
+-- the first file of that name
+abbrev pub file_in : List (List ℕ × List ℕ) → List ℕ → Option (List ℕ)
+file_in files name = option_map (λ f. f.1) (find (λ f. bytes_eq f.0 name) files)
+
+-- these bytes under that name: in the place of those that stood there, else at the end
+abbrev pub with_file : List (List ℕ × List ℕ) → List ℕ → List ℕ → List (List ℕ × List ℕ)
+with_file [] name bytes = (name, bytes) ∷ []
+with_file (file ∷ files) name bytes = if bytes_eq file.0 name then (name, bytes) ∷ files else file ∷ with_file files name bytes
 
 -- the file is there and longer than the limit, and these are its first bytes up to one past it
 abbrev pub IsTooLong : Option (List ℕ) → ℕ → List ℕ → Type 0

@@ -5,6 +5,7 @@
 #![tactic(auto)]
 
 mod fault;
+mod files;
 mod mem_sink;
 mod number;
 mod shelf;
