@@ -1,7 +1,8 @@
 // The files that the shelves in memory hold: names and bytes, in the order in which the names came.
-ghost use Rattle.std.specs.Prelude.{◌≡◌, OnOk, OnErr, IfSome, IsNone, option_map, None};
+ghost use Rattle.std.specs.Prelude.{◌≡◌, ◌≤◌, ◌<◌, ◌+◌, ◌-◌, ◌^◌, [], length, take, OnOk, OnErr, IsErrOf, option_map};
 ghost use Rattle.sec_base.specs.Files.{file_in, with_file};
 
+use crate::LoadFault;
 use std::alloc::{AllocError, Global};
 use std::marker::Model;
 
@@ -82,4 +83,22 @@ impl Files {
         }
         Ok(())
     }
+}
+
+/// Copies a file into the emptied vector, up to one byte past the limit.
+pub fn copy_in(file: &[u8], limit: u64, into: &mut Vec<u8>) -> Result<(), LoadFault>
+    requires { limit < 2 ^ 64 - 1 }
+    ensures ok { OnOk result ((into.new.items ≡ file.now) × (length file.now ≤ limit)) }
+    ensures too_long { IsErrOf result LoadFault.TooLong
+        → (limit < length file.now) × (into.new.items ≡ take (limit + 1) file.now) }
+    ensures memory { IsErrOf result LoadFault.Memory → into.new.items ≡ [] }
+    ensures no_fault { IsErrOf result LoadFault.Failed → ⊥ }
+{
+    into.clear();
+    if file.len() as u64 <= limit {
+        into.extend_from_slice(file)?;
+        return Ok(());
+    }
+    into.extend_from_slice(&file[..limit as usize + 1])?;
+    Err(LoadFault::TooLong)
 }

@@ -6,6 +6,7 @@
 
 mod fault;
 mod files;
+mod mem_shelf;
 mod mem_sink;
 mod number;
 mod shelf;
@@ -13,6 +14,7 @@ mod sink;
 mod text;
 
 pub use fault::{Failed, LoadFault, Memory, StoreFault};
+pub use mem_shelf::MemShelf;
 pub use mem_sink::MemSink;
 pub use number::write_number;
 pub use shelf::Shelf;
