@@ -1,5 +1,5 @@
 -- Files by name, and what a load says of one.
-use Rattle.std.specs.Prelude.{◌≡◌, ℕ, ◌+◌, ◌<◌, List, [], ◌∷◌, length, take, Option, option_map, bytes_eq, if◌then◌else◌, Result, Err, IsSomeAnd}
+use Rattle.std.specs.Prelude.{◌≡◌, ℕ, ◌+◌, ◌<◌, List, [], ◌∷◌, length, take, Option, option_map, unwrap_or, bytes_eq, if◌then◌else◌, Result, Err, IsSomeAnd}
 use Rattle.std.specs.List.{find}
 use Rattle.sec_base.specs.declared.fault.LoadFault.{LoadFault}
 use Rattle.sec_base.specs.declared.fault.LoadFault.TheVariants.{Failed}
@@ -7,6 +7,10 @@ use Rattle.sec_base.specs.declared.fault.LoadFault.TheVariants.{Failed}
 -- the first file of that name
 abbrev pub file_in : List (List ℕ × List ℕ) → List ℕ → Option (List ℕ)
 file_in files name = option_map (λ f. f.1) (find (λ f. bytes_eq f.0 name) files)
+
+-- the same, where each name that has no file has an empty one
+abbrev pub file_or_empty : List (List ℕ × List ℕ) → List ℕ → List ℕ
+file_or_empty files name = unwrap_or (file_in files name) []
 
 -- these bytes under that name: in the place of those that stood there, else at the end
 abbrev pub with_file : List (List ℕ × List ℕ) → List ℕ → List ℕ → List (List ℕ × List ℕ)

@@ -9,14 +9,18 @@ mod files;
 mod mem_shelf;
 mod mem_sink;
 mod number;
+mod real;
 mod shelf;
 mod sink;
+mod sure;
 mod text;
 
 pub use fault::{Failed, LoadFault, Memory, StoreFault};
 pub use mem_shelf::MemShelf;
 pub use mem_sink::MemSink;
 pub use number::write_number;
+pub use real::{FsShelf, OutSink};
 pub use shelf::Shelf;
 pub use sink::Sink;
+pub use sure::{SureShelf, SureSink};
 pub use text::write_text;
