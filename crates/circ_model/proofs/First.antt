@@ -1,8 +1,8 @@
 -- The first difference of a path.
-use Rattle.std.proofs.Common.{◌≡◌, ◌<◌, ◌+◌, ℕ, Option, Some, None, refl, ap, ap₂, subst, arith, inl, inr, length}
+use Rattle.std.proofs.Common.{◌≡◌, ◌+◌, ℕ, Option, Some, None, refl, ap, ap₂, subst, arith, inl, inr, length}
 use Rattle.std.proofs.lemmas.Bool.{cases_order}
-use Rattle.circ_model.specs.Meaning.{Pair, Path, outputs_of}
-use Rattle.circ_model.specs.Verdict.{OutputAgrees, IsFirstDifference, FirstDifference, IsLeastDifference}
+use Rattle.circ_model.specs.Meaning.{Pair, Path}
+use Rattle.circ_model.specs.Verdict.{IsFirstDifference, FirstDifference, IsLeastDifference}
 
 same_frame : (pair : Pair) (path : Path) (t i u j : ℕ) → IsFirstDifference pair path t i → IsFirstDifference pair path u j → t ≡ u
 same_frame pair path t i u j a b = elim (cases_order t u) [

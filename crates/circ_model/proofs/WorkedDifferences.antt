@@ -1,10 +1,10 @@
 -- Circuits that differ, or that induction can't decide, shown from the definitions.
-use Rattle.std.proofs.Common.{◌≡◌, ◌≢◌, ◌∙◌, ◌<◌, ◌+◌, ◌/◌, ◌⊎◌, ℕ, zero, suc, Bool, true, false, List, [], ◌∷◌, length, slice_index_or, Contains, Some, refl, ap, ap₂, sym, subst, arith, true≢false, inl}
+use Rattle.std.proofs.Common.{◌≡◌, ◌∙◌, ◌<◌, ◌⊎◌, ℕ, zero, suc, Bool, true, false, List, [], ◌∷◌, length, slice_index_or, Contains, refl, ap, ap₂, sym, subst, arith, true≢false, inl}
 use Rattle.std.proofs.lemmas.List.Elements.{All-from_recursion}
 use Rattle.circ_model.specs.declared.netlist.Reset.TheVariants.{Free}
 use Rattle.circ_model.specs.Meaning.{Path, IsRun, IsInputRow, MayStartAt, resets, bit, literal_value, value, left_leaves, right_leaves, inputs_at, state_at, value_at_level}
 use Rattle.circ_model.specs.Correspondence.{Together, IsLeastOfClass}
-use Rattle.circ_model.specs.Verdict.{AgreeBelow, OutputAgrees, IsPaired, IsFirstDifference, IsLeastDifference}
+use Rattle.circ_model.specs.Verdict.{AgreeBelow, OutputAgrees, IsPaired}
 use Rattle.circ_model.specs.Rows.{toggle, zero as constant, toggle_and_zero, two_kept, ToggleIsUndecided, ToggleIsDifferent, KeptAreDifferent, ToggleFirstDiffers}
 use Rattle.circ_model.proofs.Greatest.{greatest_holds}
 use Rattle.circ_model.proofs.WorkedVerdicts.{never_together, one_bit, no_bits, short, long}
@@ -73,12 +73,15 @@ unfolding state_at value_at_level
 differs_at_1 e = true≢false e
 
 pub toggle_is_different : ToggleIsDifferent
-toggle_is_different = (omega arith, record {
-  output = omega arith;
-  shown = (long (false ∷ []), run_is, refl, differs_at_1);
-  earlier_frames = agree_below_1;
-  earlier_outputs = λ run is len i lt. absurd (omega arith);
-})
+toggle_is_different = (
+  omega arith,
+  record {
+    output = omega arith;
+    shown = (long (false ∷ []), run_is, refl, differs_at_1);
+    earlier_frames = agree_below_1;
+    earlier_outputs = λ run is len i lt. absurd (omega arith);
+  },
+)
 
 -- latches that are free may start at 0 and 1
 kept_run : IsRun two_kept (short (false ∷ true ∷ []))
@@ -94,12 +97,15 @@ unfolding state_at value_at_level
 kept_differ e = true≢false (sym e)
 
 pub kept_are_different : KeptAreDifferent
-kept_are_different = (omega arith, record {
-  output = omega arith;
-  shown = (short (false ∷ true ∷ []), kept_run, refl, kept_differ);
-  earlier_frames = λ run is t lt within j below. absurd (omega arith);
-  earlier_outputs = λ run is len i lt. absurd (omega arith);
-})
+kept_are_different = (
+  omega arith,
+  record {
+    output = omega arith;
+    shown = (short (false ∷ true ∷ []), kept_run, refl, kept_differ);
+    earlier_frames = λ run is t lt within j below. absurd (omega arith);
+    earlier_outputs = λ run is len i lt. absurd (omega arith);
+  },
+)
 
 abbrev three : Path
 three = record { start = false ∷ []; inputs = [] ∷ [] ∷ [] ∷ [] }

@@ -1,11 +1,11 @@
 -- What a check of the worked circuits answers, shown from the definitions.
-use Rattle.std.proofs.Common.{◌≡◌, ◌≢◌, ◌∙◌, ◌<◌, ◌≤◌, ◌+◌, ◌/◌, ℕ, zero, suc, Bool, true, false, not, List, [], ◌∷◌, length, slice_index_or, All, Contains, refl, ap, ap₂, sym, subst, arith, true≢false, inl}
+use Rattle.std.proofs.Common.{◌≡◌, ◌≢◌, ◌∙◌, ◌<◌, ℕ, zero, suc, Bool, true, false, not, List, [], ◌∷◌, length, slice_index_or, All, refl, ap, ap₂, sym, subst, arith, true≢false}
 use Rattle.std.proofs.lemmas.List.Elements.{All-from_recursion, All-head, All-tail}
 use Rattle.circ_model.specs.declared.netlist.Reset.TheVariants.{Free}
-use Rattle.circ_model.specs.Meaning.{Pair, Path, IsPath, IsRun, IsSoundPair, IsInputRow, MayStartAt, resets, bit, signed, literal, row_at, state_at, value_at_level}
-use Rattle.circ_model.specs.Correspondence.{HoldsIn, HoldsAt, IsCorrespondence, IsLiteralPair, Together, IsLeastOfClass, IsClassCount}
-use Rattle.circ_model.specs.Verdict.{OutputAgrees, AgreeBelow, IsPaired}
-use Rattle.circ_model.specs.Rows.{two, toggle_and_zero, two_kept, TogglesCorrespond, TogglesAreEquivalent, ToggleIsUndecided, ToggleIsDifferent, KeptAreDifferent, ToggleFirstDiffers}
+use Rattle.circ_model.specs.Meaning.{Pair, Path, IsRun, IsSoundPair, IsInputRow, MayStartAt, resets, bit, literal, row_at, state_at, value_at_level}
+use Rattle.circ_model.specs.Correspondence.{HoldsIn, HoldsAt, IsLiteralPair, Together, IsLeastOfClass}
+use Rattle.circ_model.specs.Verdict.{IsPaired}
+use Rattle.circ_model.specs.Rows.{two, TogglesCorrespond, TogglesAreEquivalent}
 use Rattle.circ_model.proofs.Literals.{value_of_literal}
 use Rattle.circ_model.proofs.Greatest.{greatest_holds}
 use Rattle.circ_model.proofs.Outputs.{paired_agree}
