@@ -51,6 +51,28 @@ fn product_of(row: &BitRow, gate: &Gate) -> bool
 }
 
 impl Netlist {
+    /// A netlist of these parts, which are sound.
+    pub(crate) fn of(
+        max_var: u32,
+        inputs: Vec<u32>,
+        latches: Vec<Latch>,
+        outputs: Vec<Lit>,
+        gates: Vec<Gate>,
+        levels: Vec<u32>,
+    ) -> Netlist
+        requires { IsHeld (record { max_var = max_var; inputs = inputs.items; latches = latches.items; outputs = outputs.items; gates = gates.items }) levels.items }
+        ensures { result ≡ record { max_var = max_var; inputs = inputs.items; latches = latches.items; outputs = outputs.items; gates = gates.items } }
+    {
+        Netlist {
+            max_var,
+            inputs,
+            latches,
+            outputs,
+            gates,
+            levels,
+        }
+    }
+
     /// The greatest variable, which need not be defined.
     pub fn max_var(&self) -> u32
         ensures same { result ≡ self.now.max_var }

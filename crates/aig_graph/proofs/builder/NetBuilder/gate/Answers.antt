@@ -1,0 +1,13 @@
+use Rattle.std.proofs.Common.{◌≡◌, ◌<◌, ◌+◌, length, get_or, sym, ◌∙◌, arith}
+use Rattle.std.proofs.lemmas.Grind.{get_or_default_zero}
+use Rattle.circ_model.specs.Netlist.{Netlist}
+use Rattle.aig_graph.proofs.Keeping.{kept_gate}
+use Rattle.aig_graph.proofs.builder.NetBuilder.gate.Goals as goal
+
+pub invariant_of-self-2 : goal.invariant_of-self-2
+invariant_of-self-2 c =
+    let b = c.self.inside in
+    let g : Netlist = record { max_var = b.max_var; inputs = b.inputs.items; latches = b.latches.items; outputs = b.outputs.items; gates = b.gates.items } in
+    let within : c.args.var < length b.defined_as.items = omega (arith, c.self.invariant.len, c.if-var-self.false) in
+    let free : get_or b.defined_as.items c.args.var 0 ≡ 0 = sym (get_or_default_zero b.defined_as.items c.args.var c.index.result.now within) ∙ sym c.index.ensures ∙ c.if-index-ne0.false in
+    rw c.in_ok-push.ensures.items (kept_gate b.defined_as.items g (record { var = c.args.var; left = c.args.left; right = c.args.right }) (c.len-number.result + 2) (omega (arith, c.len-number.ensures)) c.self.invariant (omega arith) c.if-var-self.false (omega arith) (omega arith) free)
