@@ -1,5 +1,5 @@
 -- Members of a list, and of the list of their complements.
-use Rattle.std.proofs.Common.{◌≡◌, ℕ, zero, suc, ℤ, pos, negsuc, neg_ℤ, List, [], ◌∷◌, map, arith, sym, ◌∙◌, ap, subst, refl, ◌⊎◌, inl, inr, get_or}
+use Rattle.std.proofs.Common.{◌≡◌, zero, suc, ℤ, pos, negsuc, neg_ℤ, List, [], ◌∷◌, map, arith, sym, ◌∙◌, ap, refl, ◌⊎◌, inl, inr}
 use Rattle.std.specs.List.{Contains}
 
 pub neg_neg : (l : ℤ) → neg_ℤ (neg_ℤ l) ≡ l

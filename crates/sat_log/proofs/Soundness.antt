@@ -1,12 +1,10 @@
 -- An accepted log leaves no satisfying assignment.
-use Rattle.std.proofs.Common.{◌≡◌, ◌≤◌, ◌<◌, ◌-◌, ℕ, zero, suc, ℤ, pos, negsuc, neg_ℤ, List, [], ◌∷◌, ◌++◌, map, length, get_or, arith, sym, ◌∙◌, ap, subst, refl, ◌⊎◌, inl, inr, ⊎_elim, Bool, true, false, not, ◌||◌, append_assoc}
-use Rattle.std.specs.Prelude.{unsigned_abs}
+use Rattle.std.proofs.Common.{◌≡◌, ◌≤◌, ◌<◌, ◌-◌, ℕ, zero, suc, ℤ, pos, negsuc, neg_ℤ, List, [], ◌∷◌, ◌++◌, map, length, get_or, arith, sym, ◌∙◌, ap, subst, refl, ◌⊎◌, inl, inr, ⊎_elim, Bool, true, false, not, ◌||◌}
 use Rattle.std.proofs.lemmas.Bool.{false≢true, and_parts, and_from}
-use Rattle.std.proofs.lemmas.List.{append-nil}
-use Rattle.std.specs.List.{All, Contains, list_all, list_any}
+use Rattle.std.specs.List.{All, Contains}
 use Rattle.std.proofs.lemmas.List.Folds.{list_all-append}
 use Rattle.cnf_store.specs.Clauses.{literal_true, clause_true, satisfies, IsLiteral, AreLiterals, Formula}
-use Rattle.sat_log.specs.Derivations.{Line, clause_at, LeavesOnly, Refutes, Follows, AllFollow, EndsEmpty, IsAccepted}
+use Rattle.sat_log.specs.Derivations.{Line, clause_at, Refutes, Follows, AllFollow, EndsEmpty, IsAccepted}
 use Rattle.sat_log.proofs.Lists.{neg_neg, contains_cases, contains_head, contains_tail, contains_neg_back}
 
 abbrev pub IsTrueIn : List Bool → ℤ → Type 0
@@ -72,9 +70,9 @@ refutes_none row db assumed (h ∷ i ∷ hs) sat known holds (l, only, r) =
     let k = known 0 0 (omega arith) in
     let (m, c, t) = some_true row (clause_at db h) (clause_in row db (h - 1) sat (omega (arith, k.0, k.1))) in
     let is : IsTrueIn row l = ⊎_elim
-        (λ (e : m ≡ l). subst (IsTrueIn row) e t)
-        (λ (f : Contains assumed (neg_ℤ m)). absurd (not_both row m t (holds (neg_ℤ m) f)))
-        (all_at (λ x. (x ≡ l) ⊎ Contains assumed (neg_ℤ x)) (clause_at db h) m only.others c) in
+    (λ (e : m ≡ l). subst (IsTrueIn row) e t)
+    (λ (f : Contains assumed (neg_ℤ m)). absurd (not_both row m t (holds (neg_ℤ m) f)))
+    (all_at (λ x. (x ≡ l) ⊎ Contains assumed (neg_ℤ x)) (clause_at db h) m only.others c) in
     refutes_none row db (l ∷ assumed) (i ∷ hs) sat (λ p d lt. known (suc p) d (omega arith))
     (λ x d. ⊎_elim (λ (e : l ≡ x). subst (IsTrueIn row) e is) (λ (a : Contains assumed x). holds x a) (contains_cases l x assumed d)) r
 
@@ -84,16 +82,16 @@ some_or_all vars row [] are = inr (λ l (k, lt, e). absurd (omega arith))
 some_or_all vars row (x ∷ ls) are = ⊎_elim
     (λ (t : IsTrueIn row x). inl (ap (λ b. b || clause_true row ls) t))
     (λ (f : IsTrueIn row (neg_ℤ x)). ⊎_elim
-      (λ (a : clause_true row ls ≡ true). let (l, c, t) = some_true row ls a in inl (true_some row (x ∷ ls) l (contains_tail x l ls c) t))
-      (λ (n : (l : ℤ) → Contains ls l → IsTrueIn row (neg_ℤ l)). inr (λ l c. ⊎_elim (λ (e : x ≡ l). subst (λ m. IsTrueIn row (neg_ℤ m)) e f) (λ (h : Contains ls l). n l h) (contains_cases x l ls c)))
-      (some_or_all vars row ls (λ k d lt. are (suc k) d (omega arith))))
+    (λ (a : clause_true row ls ≡ true). let (l, c, t) = some_true row ls a in inl (true_some row (x ∷ ls) l (contains_tail x l ls c) t))
+    (λ (n : (l : ℤ) → Contains ls l → IsTrueIn row (neg_ℤ l)). inr (λ l c. ⊎_elim (λ (e : x ≡ l). subst (λ m. IsTrueIn row (neg_ℤ m)) e f) (λ (h : Contains ls l). n l h) (contains_cases x l ls c)))
+    (some_or_all vars row ls (λ k d lt. are (suc k) d (omega arith))))
     (true_or_false vars row x (are 0 x (omega arith)))
 
 -- a line that follows keeps each satisfying assignment
 follows_keeps : (vars : ℕ) (row : List Bool) (db : List (List ℤ)) (line : Line) → Follows vars db line → satisfies row db ≡ true → clause_true row line.literals ≡ true
 follows_keeps vars row db line f sat = ⊎_elim (λ (a : clause_true row line.literals ≡ true). a)
     (λ (n : (l : ℤ) → Contains line.literals l → IsTrueIn row (neg_ℤ l)). absurd (refutes_none row db (map neg_ℤ line.literals) line.hints sat f.earlier
-      (λ l c. subst (IsTrueIn row) (neg_neg l) (n (neg_ℤ l) (contains_neg_back line.literals l c))) f.refutes))
+    (λ l c. subst (IsTrueIn row) (neg_neg l) (n (neg_ℤ l) (contains_neg_back line.literals l c))) f.refutes))
     (some_or_all vars row line.literals f.within)
 
 satisfies_push : (row : List Bool) (db : List (List ℤ)) (c : List ℤ) → satisfies row db ≡ true → clause_true row c ≡ true → satisfies row (db ++ c ∷ []) ≡ true

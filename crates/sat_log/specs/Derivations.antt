@@ -8,6 +8,10 @@ pub record Line : Type 0 where
   pub literals : List ℤ
   pub hints : List ℕ
 
+-- lines are counted from 0
+abbrev pub line_at : List Line → ℕ → Line
+line_at lines i = slice_index_or lines i (record { literals = []; hints = [] })
+
 -- clauses are counted from 1
 abbrev pub clause_at : List (List ℤ) → ℕ → List ℤ
 clause_at clauses h = slice_index_or clauses (h - 1) []

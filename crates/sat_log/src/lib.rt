@@ -4,5 +4,7 @@
 #![tactic(auto)]
 
 mod laws;
+mod log;
 
 pub use laws::accepted_logs_refute;
+pub use log::Log;
