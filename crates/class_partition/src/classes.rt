@@ -1,5 +1,5 @@
 ghost use Rattle.std.specs.Prelude.{◌≡◌, ◌<◌, ◌≤◌, ◌+◌, ◌/◌, ◌↔◌, ℕ, IsTrue, length, IfOk};
-ghost use Rattle.class_partition.specs.Classes.{least_of, phase_of, AreTogether, Pairs, one_class, class_count, split_of, HoldIn, IsNextNeeded};
+ghost use Rattle.class_partition.specs.Classes.{least_of, phase_of, ArePartition, AreTogether, Pairs, IsSplit, one_class, class_count, split_of, HoldIn, IsNextNeeded};
 
 use crate::split::split_places;
 use bit_rows::BitRow;
@@ -61,7 +61,8 @@ impl Classes {
 
     /// The number of places.
     pub fn len(&self) -> u32
-        ensures { result ≡ length self.now.least }
+        ensures places { result ≡ length self.now.least }
+        ensures partition { ArePartition result self.now }
     {
         self.phase.len()
     }
@@ -141,6 +142,7 @@ impl Classes {
     pub fn split_by(&mut self, row: &BitRow) -> u32
         requires row { length row.now ≡ length self.old.least }
         ensures split { self.new ≡ split_of (length self.old.least) self.old row.now }
+        ensures splits { IsSplit (length self.old.least) self.old row.now self.new }
         ensures count { class_count (length self.old.least) self.new ≡ class_count (length self.old.least) self.old + result }
         ensures none { result ≡ 0 → (self.new ≡ self.old) × HoldIn (length self.old.least) self.old row.now }
     {

@@ -1,7 +1,8 @@
-use Rattle.std.proofs.Common.{◌≡◌, ◌∙◌, length, arith, ℕ, subst}
-use Rattle.class_partition.specs.Classes.{Classes, HoldIn}
+use Rattle.std.proofs.Common.{◌≡◌, ◌∙◌, length, arith, ℕ, List, ap, sym, subst}
+use Rattle.class_partition.specs.Classes.{Classes, HoldIn, IsSplit, split_of}
 use Rattle.class_partition.specs.Steps.{classes_of}
 use Rattle.class_partition.proofs.Kept.{split_kept, split_none}
+use Rattle.class_partition.proofs.Splitting.{split_is}
 use Rattle.class_partition.proofs.ClassCount.{count_most}
 use Rattle.class_partition.proofs.classes.Classes.split_by.Goals as goal
 
@@ -25,3 +26,12 @@ returns-clause-none c z =
     let h = split_none n i.least.items i.phase c.args.row.now c.split_places-added.new.least.items c.split_places-added.result c.self.invariant.0 c.split_places-added.ensures.split c.split_places-added.ensures.count z in
     let view : before ≡ c.args.self.now = c.self.view_is in
     (h.0 ∙ view, subst (λ (old : Classes). HoldIn (length old.least) old c.args.row.now) view h.1)
+
+pub returns-clause-splits : goal.returns-clause-splits
+returns-clause-splits c =
+    let i = c.self.inside in
+    let before : Classes = classes_of i.least.items i.phase in
+    let same : classes_of c.split_places-added.new.least.items i.phase ≡ split_of (length i.least.items) before c.args.row.now = ap (λ (l : List ℕ). classes_of l i.phase) c.split_places-added.ensures.split in
+    let view : before ≡ c.args.self.now = c.self.view_is in
+    subst (λ (old : Classes). IsSplit (length old.least) old c.args.row.now (classes_of c.split_places-added.new.least.items i.phase)) view
+    (subst (IsSplit (length i.least.items) before c.args.row.now) (sym same) (split_is (length i.least.items) before c.args.row.now c.self.invariant.0))
