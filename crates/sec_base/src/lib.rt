@@ -24,3 +24,6 @@ pub use shelf::Shelf;
 pub use sink::Sink;
 pub use sure::{SureShelf, SureSink};
 pub use text::write_text;
+
+#[cfg(test)]
+mod tests;

@@ -116,19 +116,15 @@ impl Shelf for MemShelf {
         ensures fails { IsTrue (fails_load self.old name.now) → IsErrOf result LoadFault.Failed ⊎ IsErrOf result LoadFault.Memory }
         ensures cause { IsErrOf result LoadFault.Failed → IsTrue (fails_load self.old name.now) }
         ensures state { self.new ≡ after_load result self.old name.now }
+        ensures count { self.old.load_faults ≤ self.new.load_faults }
 
-        // What each shelf ensures.
+        // What was read.
         ensures ok { OnOk result (file_in self.old.files name.now ≡ Some into.new.items) }
         ensures within { OnOk result (vec_len into.new ≤ limit) }
-        ensures failed { IsErrOf result LoadFault.Failed → Rose self.old.load_faults self.new.load_faults }
         ensures too_long { IsErrOf result LoadFault.TooLong → vec_len into.new ≡ limit + 1 }
         ensures first_bytes { IsErrOf result LoadFault.TooLong → IsTooLong (file_in self.old.files name.now) limit into.new.items }
         ensures emptied_failed { IsErrOf result LoadFault.Failed → into.new.items ≡ [] }
         ensures emptied_memory { IsErrOf result LoadFault.Memory → into.new.items ≡ [] }
-        ensures files { file_in self.new.files ≡ file_in self.old.files }
-        ensures names { Some self.new.failed ≡ appended (Some self.old.failed) (failed_in result name.now) }
-        ensures load_count { self.old.load_faults ≤ self.new.load_faults }
-        ensures store_count { self.new.store_faults ≡ self.old.store_faults }
     {
         into.clear();
         if self.is_next_listed() {
@@ -145,15 +141,12 @@ impl Shelf for MemShelf {
         // Which calls fail, and what stands after each answer.
         ensures fails { IsErrOf result StoreFault.Failed ↔ IsTrue (is_listed self.old.fails self.old.calls) }
         ensures state { self.new ≡ after_store result self.old name.now bytes.now }
+        ensures count { self.old.store_faults ≤ self.new.store_faults }
 
-        // What each shelf ensures.
+        // What the names hold.
         ensures ok { OnOk result (file_in self.new.files name.now ≡ Some bytes.now) }
-        ensures failed { IsErrOf result StoreFault.Failed → Rose self.old.store_faults self.new.store_faults }
         ensures memory { IsErrOf result StoreFault.Memory → file_in self.new.files ≡ file_in self.old.files }
         ensures others { (other : List ℕ) → other ≢ name.now → file_in self.new.files other ≡ file_in self.old.files other }
-        ensures names { Some self.new.failed ≡ Some self.old.failed }
-        ensures store_count { self.old.store_faults ≤ self.new.store_faults }
-        ensures load_count { self.new.load_faults ≡ self.old.load_faults }
     {
         if self.is_next_listed() {
             self.store_faults = self.store_faults.saturating_add(1);

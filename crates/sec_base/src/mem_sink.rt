@@ -61,13 +61,6 @@ impl Sink for MemSink {
         ensures fails { is_err result ≡ refuses self.old piece.now }
         ensures fits { IfOk result (λ n. n ≡ min (room_left self.old) (length piece.now)) }
         ensures state { self.new ≡ after_write self.old piece.now }
-
-        // What each sink ensures.
-        ensures ok { IfOk result (λ n. Some self.new.bytes ≡ appended (Some self.old.bytes) (take n piece.now)) }
-        ensures some { IfOk result (λ n. 0 < length piece.now → 0 < n) }
-        ensures within { IfOk result (λ n. n ≤ length piece.now) }
-        ensures failed { OnErr result (Rose self.old.faults self.new.faults) }
-        ensures nothing { OnErr result (Some self.new.bytes ≡ Some self.old.bytes) }
         ensures count { self.old.faults ≤ self.new.faults }
     {
         let listed = self.fails.contains(&self.calls);

@@ -60,7 +60,7 @@ impl Shelf for SureShelf {
         ensures sure { IsErrOf result LoadFault.Failed → ⊥ }
         ensures state { self.new ≡ self.old }
 
-        // What each shelf ensures.
+        // What was read.
         ensures ok { OnOk result (Some (file_or_empty self.old name.now) ≡ Some into.new.items) }
         ensures within { OnOk result (vec_len into.new ≤ limit) }
         ensures too_long { IsErrOf result LoadFault.TooLong → vec_len into.new ≡ limit + 1 }
@@ -84,7 +84,7 @@ impl Shelf for SureShelf {
         ensures stored { OnOk result (self.new ≡ with_file self.old name.now bytes.now) }
         ensures state { IsErrOf result StoreFault.Memory → self.new ≡ self.old }
 
-        // What each shelf ensures.
+        // What the names hold.
         ensures ok { OnOk result (Some (file_or_empty self.new name.now) ≡ Some bytes.now) }
         ensures others { (other : List ℕ) → other ≢ name.now
             → Some (file_or_empty self.new other) ≡ Some (file_or_empty self.old other) }
