@@ -113,7 +113,7 @@ writes_last items i rest total w (inr lt) = let one : shortest_in (4 - i) rest �
 
 -- ---- what is written is read again, whatever follows
 
-first_byte : (bytes : List ℕ) (at b : ℕ) (rest : List ℕ) → drop at bytes ≡ b ∷ rest → (at < length bytes) × (get_or bytes at 0 ≡ b) × (drop (at + 1) bytes ≡ rest)
+pub first_byte : (bytes : List ℕ) (at b : ℕ) (rest : List ℕ) → drop at bytes ≡ b ∷ rest → (at < length bytes) × (get_or bytes at 0 ≡ b) × (drop (at + 1) bytes ≡ rest)
 first_byte bytes at b rest e = (
   (let l = length-drop at bytes in let m : length (drop at bytes) ≡ suc (length rest) = ap length e in omega arith),
   (let g = get_or-drop at bytes 0 0 in let z : at + 0 ≡ at = omega arith in sym (ap (λ (k : ℕ). get_or bytes k 0) z) ∙ sym g ∙ ap (λ (l : List ℕ). get_or l 0 0) e),

@@ -20,7 +20,7 @@ and_both false b e = absurd cc
 digit_is : (b : ℕ) → is_digit b ≡ true → IsDigit b
 digit_is b e = let h = and_both (leb 48 b) (leb b 57) e in (leb-true _ _ h.0, leb-true _ _ h.1)
 
-is_of_digit : (b : ℕ) → IsDigit b → is_digit b ≡ true
+pub is_of_digit : (b : ℕ) → IsDigit b → is_digit b ≡ true
 is_of_digit b h = let a : leb 48 b ≡ true = le-leb _ _ h.0 in let c : leb b 57 ≡ true = le-leb _ _ h.1 in rw (a, c) refl
 
 -- the digits at the front are digits, and begin the bytes
@@ -51,7 +51,7 @@ digits_of_text : (text : List ℕ) (b : ℕ) (rest : List ℕ) → AllByRecursio
 digits_of_text [] b rest all e = rw e refl
 digits_of_text (d ∷ text) b rest all e = let t = is_of_digit d all.0 in let h = digits_of_text text b rest all.1 e in rw (t, h) refl
 
-number_made : (text : List ℕ) (at n : ℕ) → SpellsNumber text n → number_of text at ≡ Some (n, at + length text)
+pub number_made : (text : List ℕ) (at n : ℕ) → SpellsNumber text n → number_of text at ≡ Some (n, at + length text)
 number_made [] at n s = absurd (omega (arith, s.some))
 number_made (d ∷ ds) at n s = ap (λ (v : ℕ). Some (v, at + length (d ∷ ds))) (sym s.value)
 

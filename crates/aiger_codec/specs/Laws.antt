@@ -1,0 +1,44 @@
+-- What is read is spelled so, and what is spelled so is read, whatever follows.
+use Rattle.std.specs.Prelude.{◌≡◌, ℕ, ◌+◌, ◌^◌, ◌<◌, ◌≤◌, List, [], ◌++◌, length, drop, slice_index, Some, Ok}
+use Rattle.aiger_codec.specs.Numbers.{digits, number_at}
+use Rattle.aiger_codec.specs.Lines.{line_at}
+use Rattle.aiger_codec.specs.Grammar.{SpellsNumber, SpellsLine}
+use Rattle.aiger_codec.specs.Deltas.{delta_at, IsSpelled, shortest}
+use Rattle.aiger_codec.specs.declared.delta.Delta.TheVariants.{Value}
+
+-- the text stands at the place, and the rest after it, at the end
+pub record StandsAt (bytes : List ℕ) (at : ℕ) (text : List ℕ) (end : ℕ) (rest : List ℕ) : Type 0 where
+  pub is : drop at bytes ≡ text ++ rest
+  pub ends : end ≡ at + length text
+
+abbrev pub NumberIsSpelled : Type 0
+NumberIsSpelled = (bytes : List ℕ) (at n end : ℕ) → number_at bytes at ≡ Some (n, end)
+    → (text : List ℕ) × SpellsNumber text n × StandsAt bytes at text end (drop end bytes)
+
+-- no further digit follows
+abbrev pub SpelledNumberIsRead : Type 0
+SpelledNumberIsRead = (bytes : List ℕ) (at n end : ℕ) (text rest : List ℕ) → SpellsNumber text n → digits rest ≡ [] → StandsAt bytes at text end rest
+    → number_at bytes at ≡ Some (n, end)
+
+abbrev pub LineIsSpelled : Type 0
+LineIsSpelled = (least most : ℕ) (bytes : List ℕ) (at : ℕ) (ns : List ℕ) (end : ℕ) → line_at least most bytes at ≡ Ok (ns, end)
+    → (text : List ℕ) × SpellsLine text ns × StandsAt bytes at text end (drop end bytes) × (least ≤ length ns) × (length ns ≤ most)
+
+abbrev pub SpelledLineIsRead : Type 0
+SpelledLineIsRead = (least most : ℕ) (bytes : List ℕ) (at : ℕ) (ns : List ℕ) (end : ℕ) (text rest : List ℕ) → SpellsLine text ns → StandsAt bytes at text end rest
+    → least ≤ length ns → length ns ≤ most → line_at least most bytes at ≡ Ok (ns, end)
+
+abbrev pub DeltaIsSpelled : Type 0
+DeltaIsSpelled = (bytes : List ℕ) (at n end : ℕ) → ((i : ℕ) → slice_index bytes i < 256) → delta_at bytes at ≡ Value n end
+    → (text : List ℕ) × IsSpelled text n × StandsAt bytes at text end (drop end bytes) × (length text ≤ 5) × (n < 2 ^ 32)
+
+abbrev pub SpelledDeltaIsRead : Type 0
+SpelledDeltaIsRead = (bytes : List ℕ) (at n end : ℕ) (text rest : List ℕ) → IsSpelled text n → StandsAt bytes at text end rest → length text ≤ 5 → n < 2 ^ 32
+    → delta_at bytes at ≡ Value n end
+
+-- the shortest spelling is one, and no other is shorter
+abbrev pub ShortestIsSpelled : Type 0
+ShortestIsSpelled = (n : ℕ) → n < 2 ^ 32 → IsSpelled (shortest n) n × (length (shortest n) ≤ 5)
+
+abbrev pub NoneIsShorter : Type 0
+NoneIsShorter = (text : List ℕ) (n : ℕ) → IsSpelled text n → length (shortest n) ≤ length text

@@ -1,0 +1,18 @@
+// What is true of the spellings: each is read again, and nothing else is read.
+ghost use Rattle.aiger_codec.specs.Laws.{NumberIsSpelled, SpelledNumberIsRead, LineIsSpelled, SpelledLineIsRead, DeltaIsSpelled, SpelledDeltaIsRead, ShortestIsSpelled, NoneIsShorter};
+
+/// Decimal numbers and lines of them, both ways.
+pub fn numbers_and_lines()
+    ensures number { NumberIsSpelled }
+    ensures number_again { SpelledNumberIsRead }
+    ensures line { LineIsSpelled }
+    ensures line_again { SpelledLineIsRead }
+{}
+
+/// Numbers of the binary form, both ways, and which spelling of them is written.
+pub fn binary_numbers()
+    ensures read { DeltaIsSpelled }
+    ensures read_again { SpelledDeltaIsRead }
+    ensures written { ShortestIsSpelled }
+    ensures shortest { NoneIsShorter }
+{}
