@@ -36,6 +36,9 @@ pub record Follows (vars : ℕ) (clauses : List (List ℤ)) (line : Line) : Type
   pub earlier : All (λ h. (0 < h) × (h ≤ length clauses)) line.hints
   pub refutes : Refutes clauses (map neg_ℤ line.literals) line.hints
 
+abbrev pub clauses_of : List Line → List (List ℤ)
+clauses_of lines = map (λ (l : Line). l.literals) lines
+
 -- each line follows from the clauses and from the lines before it
 abbrev pub AllFollow : ℕ → List (List ℤ) → List Line → Type 0
 AllFollow vars clauses [] = Unit {0}
