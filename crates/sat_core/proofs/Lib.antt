@@ -1,0 +1,9 @@
+pub mod Lits
+pub mod Ranks
+pub mod Refuting
+pub mod Placing
+pub mod Deriving
+pub mod Seeing
+pub mod Upkeep
+pub mod Concluding
+pub mod Signing

@@ -1,0 +1,12 @@
+use Rattle.std.proofs.Common.{◌≤◌}
+use Rattle.sat_core.specs.Trail.{State}
+use Rattle.sat_core.proofs.analysis.learn_nothing.Given as goal
+
+abbrev pub invariant-down : goal.invariant-down
+invariant-down l = record {
+  state : State l.db l.lits l.seen 0 l.learned.items l.hints.items l.i l.count;
+  limit : l.i ≤ l.from;
+}
+
+abbrev pub decreases-down : goal.decreases-down
+decreases-down l = l.i

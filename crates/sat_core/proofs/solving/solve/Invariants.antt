@@ -1,0 +1,10 @@
+use Rattle.std.proofs.Common.{◌-◌, ◌+◌, ◌*◌, ◌^◌}
+use Rattle.sat_core.specs.Solving.{Keeps}
+use Rattle.sat_core.specs.Rank.{rank}
+use Rattle.sat_core.proofs.solving.solve.Given as goal
+
+abbrev pub invariant-steps : goal.invariant-steps
+invariant-steps l = Keeps l.vars l.formula l.s
+
+abbrev pub decreases-steps : goal.decreases-steps
+decreases-steps l = (1000 - l.restarts) * 3 ^ l.vars + (3 ^ l.vars - rank l.vars l.s.trail.reasons.items)

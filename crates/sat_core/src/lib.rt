@@ -1,0 +1,18 @@
+//! A solver by clause learning: it decides whether some assignment satisfies all clauses of a formula, with a row of bits
+//! that does, or with a log that derives the empty clause.
+//!
+//! The design is MiniSat's (Eén and Sörensson, SAT 2003): first unique implication points, two watched literals, a heap of
+//! variables by activity, saved phases, restarts. What is proved rests on the trail and on clauses that were just read, and
+//! never on watches, activities or restarts.
+#![tactic(auto)]
+
+mod analysis;
+mod edge;
+mod logs;
+mod looking;
+mod ordering;
+mod solving;
+mod trail;
+mod watching;
+
+pub use solving::solve;

@@ -1,0 +1,466 @@
+//! The solver.
+
+ghost use Rattle.std.specs.Prelude.{◌≡◌, ◌≢◌, ◌≤◌, ◌<◌, ◌+◌, ◌-◌, ◌*◌, ◌/◌, ◌%◌, ◌^◌, ◌++◌, ◌∷◌, [], ℕ, Bool, true, false, List, IfOk, OnOk, OnErr, IfSome, IfNone, length, slice_index, slice_index_or, slice_set, map, take, reverse, vec_len, ◌⊎◌, ◌↔◌, IsTrue, ◌==◌};
+ghost use Rattle.std.specs.List.{All, Any, Contains};
+ghost use Rattle.sat_core.specs.Derivations.{neg, clause_at, AreWithin, Follows, MakesTrue};
+ghost use Rattle.sat_core.specs.Trail.{IsPlaced, StandsBelow, IsWrong, IsUnit, AreStarts, IsLearned};
+ghost use Rattle.sat_core.specs.Solving.{Keeps, HasGone, IsAnswer, Standing};
+ghost use Rattle.sat_core.specs.Rank.{rank};
+
+use cnf_store::Arena;
+use crate::analysis::{complement, learn, learn_nothing};
+use crate::logs::Line;
+use crate::looking::{Look, look_through};
+use crate::ordering::Order;
+use crate::trail::Trail;
+use crate::watching::{Watches, propagate, read_all};
+use std::alloc::{AllocError, Global};
+
+/// What a solver has at hand.
+#[derive(Drop)]
+pub struct Solver {
+    pub db: Arena<u32>,
+    pub log: Vec<Line>,
+    pub trail: Trail,
+}
+
+/// The answer.
+#[derive(Drop)]
+pub enum Answer {
+    Sat(Vec<bool>),
+    Unsat(Vec<Line>),
+}
+
+/// What a step comes to.
+#[derive(Drop)]
+pub enum Gone {
+    On,
+    Refuted,
+    Full,
+}
+
+/// One past the greatest place of a literal of the clause, but for this one.
+fn top(clause: &[u32], skip: u32, at: &[usize]) -> usize
+    requires within { All (λ l. l < 2 * length at.now) clause.now }
+    ensures most { (l : ℕ) → Contains clause.now l → (l ≡ skip) ⊎ (slice_index at.now (l / 2) ≤ result) }
+    ensures met { (result ≡ 0) ⊎ Any (λ l. (l ≢ skip) × (slice_index at.now (l / 2) ≡ result)) clause.now }
+{
+    let mut most = 0;
+    for lit in clause {
+        most = higher(*lit, skip, at, most);
+    }
+    most
+}
+
+// The greater of a literal's place and this.
+fn higher(lit: u32, skip: u32, at: &[usize], most: usize) -> usize
+    requires { lit / 2 < length at.now }
+    ensures most { most ≤ result }
+    ensures here { (lit ≡ skip) ⊎ (slice_index at.now (lit / 2) ≤ result) }
+    ensures met { (result ≡ most) ⊎ ((lit ≢ skip) × (slice_index at.now (lit / 2) ≡ result)) }
+{
+    let place = at[lit as usize / 2];
+    if lit == skip || place <= most {
+        most
+    } else {
+        place
+    }
+}
+
+// How many levels begin below a place.
+pub fn level_below(starts: &[usize], place: usize) -> usize
+    ensures within { result ≤ length starts.now }
+    ensures below { 0 < result → slice_index starts.now (result - 1) < place }
+    ensures above { result < length starts.now → place ≤ slice_index starts.now result }
+{
+    let mut level = starts.len();
+    'down: while level > 0 && starts[level - 1] >= place {
+        level -= 1;
+    }
+    level
+}
+
+// Adds what a clause implies.
+pub fn add_implied(
+    vars: usize,
+    formula: &Arena<u32>,
+    s: &mut Solver,
+    lit: u32,
+    clause: u64,
+) -> Result<(), AllocError>
+    requires keeps { Keeps vars formula.now s.old }
+    requires clause { (0 < clause) × (clause ≤ length s.old.db) }
+    requires unit { IsUnit s.old.trail.lits.items s.old.trail.at.items (clause_at s.old.db clause) lit }
+    ensures { OnOk result (Keeps vars formula.now s.new × (rank vars s.old.trail.reasons.items < rank vars s.new.trail.reasons.items) × (s.new.db ≡ s.old.db)) }
+{
+    s.trail.imply(lit, clause);
+    Ok(())
+}
+
+// The same as a step.
+fn go_on(
+    vars: usize,
+    formula: &Arena<u32>,
+    s: &mut Solver,
+    lit: u32,
+    clause: u64,
+) -> Result<Gone, AllocError>
+    requires keeps { Keeps vars formula.now s.old }
+    requires clause { (0 < clause) × (clause ≤ length s.old.db) }
+    requires unit { IsUnit s.old.trail.lits.items s.old.trail.at.items (clause_at s.old.db clause) lit }
+    ensures { IfOk result (HasGone vars formula.now s.old s.new) }
+{
+    add_implied(vars, formula, s, lit, clause)?;
+    Ok(Gone::On)
+}
+
+// Decides a variable.
+pub fn guess(
+    vars: usize,
+    formula: &Arena<u32>,
+    s: &mut Solver,
+    var: usize,
+    phase: bool,
+) -> Result<Gone, AllocError>
+    requires few { vars < 2 ^ 31 }
+    requires keeps { Keeps vars formula.now s.old }
+    requires var { var < vars }
+    requires free { slice_index s.old.trail.at.items var ≡ 0 }
+    ensures { IfOk result (HasGone vars formula.now s.old s.new) }
+{
+    s.trail.decide(literal(var, phase));
+    Ok(Gone::On)
+}
+
+fn literal(var: usize, phase: bool) -> u32
+    requires { var < 2 ^ 31 }
+    ensures { result / 2 ≡ var }
+{
+    let even = 2 * var as u32;
+    if phase { even } else { even + 1 }
+}
+
+// Keeps the values that a way back takes.
+fn release_from(order: &mut Order, trail: &Trail, level: usize) -> Result<(), AllocError> {
+    if level >= trail.starts.len() {
+        return Ok(());
+    }
+    for p in trail.starts[level]..trail.lits.len() {
+        order.release(trail.lits[p])?;
+    }
+    Ok(())
+}
+
+// Adds a learned clause, goes back as far as it allows and adds what it implies there.
+fn conclude(
+    vars: usize,
+    formula: &Arena<u32>,
+    s: &mut Solver,
+    order: &mut Order,
+    level: usize,
+    limit: usize,
+    i: usize,
+    learned: Vec<u32>,
+    hints: Vec<u64>,
+) -> Result<Gone, AllocError>
+    requires keeps { Keeps vars formula.now s.old }
+    requires level { (0 < level) × (level ≤ length s.old.trail.starts.items) }
+    requires limit { limit ≤ length s.old.trail.lits.items }
+    requires learned { IsLearned s.old.db s.old.trail.lits.items (slice_index s.old.trail.starts.items (level - 1)) limit i learned.items hints.items }
+    ensures { IfOk result (HasGone vars formula.now s.old s.new) }
+{
+    let lit = complement(s.trail.lits[i]);
+    let second = top(&learned, lit, &s.trail.at);
+    let cut = level_below(&s.trail.starts, second);
+    release_from(order, &s.trail, cut)?;
+    s.db.add(&learned)?;
+    let number = s.db.len() as u64;
+    s.log.reserve(1)?;
+    s.log.push_reserved(Line {
+        literals: learned,
+        hints,
+    });
+    s.trail.back_to(cut);
+    s.trail.imply(lit, number);
+    Ok(Gone::On)
+}
+
+// Meets a conflict that rests on no decision.
+fn refute(
+    alloc: Global,
+    vars: usize,
+    formula: &Arena<u32>,
+    s: &mut Solver,
+    from: usize,
+    conflict: u64,
+) -> Result<Gone, AllocError>
+    requires keeps { Keeps vars formula.now s.old }
+    requires conflict { (0 < conflict) × (conflict ≤ length s.old.db) }
+    requires from { from ≤ length s.old.trail.lits.items }
+    requires wrong { IsWrong s.old.trail.lits.items from (clause_at s.old.db conflict) }
+    requires root { 0 < length s.old.trail.starts.items → from ≤ slice_index s.old.trail.starts.items 0 }
+    ensures { IfOk result (HasGone vars formula.now s.old s.new) }
+{
+    let mut seen = vec![in alloc; false; s.trail.lits.len()]?;
+    let mut learned = Vec::new(alloc);
+    let mut hints = Vec::new(alloc);
+    learn_nothing(
+        &s.db,
+        &s.trail.lits,
+        &s.trail.reasons,
+        &s.trail.at,
+        from,
+        conflict,
+        &mut seen,
+        &mut learned,
+        &mut hints,
+    )?;
+    s.log.reserve(1)?;
+    s.log.push_reserved(Line {
+        literals: Vec::new(alloc),
+        hints,
+    });
+    Ok(Gone::Refuted)
+}
+
+// Meets a conflict.
+pub fn meet(
+    alloc: Global,
+    vars: usize,
+    formula: &Arena<u32>,
+    s: &mut Solver,
+    order: &mut Order,
+    conflict: u64,
+) -> Result<Gone, AllocError>
+    requires keeps { Keeps vars formula.now s.old }
+    requires conflict { (0 < conflict) × (conflict ≤ length s.old.db) }
+    requires wrong { IsWrong s.old.trail.lits.items (length s.old.trail.lits.items) (clause_at s.old.db conflict) }
+    ensures { IfOk result (HasGone vars formula.now s.old s.new) }
+{
+    let from = top(s.db.get((conflict - 1) as usize), u32::MAX, &s.trail.at);
+    let level = level_below(&s.trail.starts, from);
+    if level == 0 {
+        return refute(alloc, vars, formula, s, from, conflict);
+    }
+    let start = s.trail.starts[level - 1];
+    let mut seen = vec![in alloc; false; s.trail.lits.len()]?;
+    let mut learned = Vec::new(alloc);
+    let mut hints = Vec::new(alloc);
+    let i = learn(
+        &s.db,
+        &s.trail.lits,
+        &s.trail.reasons,
+        &s.trail.at,
+        start,
+        from,
+        conflict,
+        &mut seen,
+        &mut learned,
+        &mut hints,
+    )?;
+    conclude(vars, formula, s, order, level, from, i, learned, hints)
+}
+
+// Meets a conflict at a clause counted from 0.
+fn meet_at(
+    alloc: Global,
+    vars: usize,
+    formula: &Arena<u32>,
+    s: &mut Solver,
+    order: &mut Order,
+    number: usize,
+) -> Result<Gone, AllocError>
+    requires keeps { Keeps vars formula.now s.old }
+    requires number { number < length s.old.db }
+    requires wrong { IsWrong s.old.trail.lits.items (length s.old.trail.lits.items) (clause_at s.old.db (number + 1)) }
+    ensures { IfOk result (HasGone vars formula.now s.old s.new) }
+{
+    let known = s.db.len();
+    prove!(number < known);
+    meet(alloc, vars, formula, s, order, number as u64 + 1)
+}
+
+// Where every variable has a value, or seems to: reads every clause.
+pub fn check_all(
+    alloc: Global,
+    vars: usize,
+    formula: &Arena<u32>,
+    s: &mut Solver,
+    order: &mut Order,
+) -> Result<Gone, AllocError>
+    requires few { vars < 2 ^ 31 }
+    requires keeps { Keeps vars formula.now s.old }
+    requires full { (v : ℕ) → v < vars → 0 < slice_index s.old.trail.at.items v }
+    ensures { IfOk result (HasGone vars formula.now s.old s.new) }
+{
+    match look_through(&s.db, &s.trail.lits, &s.trail.at) {
+        Look::Implied(lit, clause) => go_on(vars, formula, s, lit, clause),
+        Look::Conflict(clause) => meet(alloc, vars, formula, s, order, clause),
+        Look::Quiet => Ok(Gone::Full),
+    }
+}
+
+// One step: what follows, and then a conflict or a decision.
+fn step(
+    alloc: Global,
+    vars: usize,
+    formula: &Arena<u32>,
+    s: &mut Solver,
+    w: &mut Watches,
+    order: &mut Order,
+    from: usize,
+) -> Result<Gone, AllocError>
+    requires few { vars < 2 ^ 31 }
+    requires keeps { Keeps vars formula.now s.old }
+    ensures { IfOk result (HasGone vars formula.now s.old s.new) }
+{
+    match propagate(alloc, vars, formula, s, w, from)? {
+        Some(number) => meet_at(alloc, vars, formula, s, order, number),
+        None => match order.pick(&s.trail.at) {
+            Some(var) => guess(vars, formula, s, var, order.phase_of(var)),
+            None => check_all(alloc, vars, formula, s, order),
+        },
+    }
+}
+
+// Back to the first level.
+fn restart(vars: usize, formula: &Arena<u32>, s: &mut Solver, order: &mut Order) -> Result<(), AllocError>
+    requires { Keeps vars formula.now s.old }
+    ensures { OnOk result (Keeps vars formula.now s.new) }
+{
+    if s.trail.starts.len() > 0 {
+        release_from(order, &s.trail, 0)?;
+        s.trail.back_to(0);
+    }
+    Ok(())
+}
+
+// Raises the variables of the clauses that the last line rests on.
+fn raise_last(s: &Solver, order: &mut Order) {
+    if s.log.len() == 0 {
+        return;
+    }
+    let line = &s.log[s.log.len() - 1];
+    for h in &line.hints {
+        let number = *h as usize;
+        if number > 0 && number <= s.db.len() {
+            for l in s.db.get(number - 1) {
+                order.raise(*l as usize / 2);
+            }
+        }
+    }
+    order.grow();
+}
+
+// The trail as a row of bits.
+fn row_of(alloc: Global, lits: &[u32], at: &[usize]) -> Result<Vec<bool>, AllocError>
+    requires { IsPlaced (length at.now) lits.now at.now }
+    ensures size { IfOk result (λ row. length row.items ≡ length at.now) }
+    ensures trues { IfOk result (λ row. (l : ℕ) → StandsBelow lits.now (length lits.now) l → MakesTrue row.items l) }
+{
+    let mut row = Vec::new(alloc);
+    for v in 0..at.len() {
+        row.push(is_set(lits, at, v))?;
+    }
+    Ok(row)
+}
+
+// Whether a variable is true.
+fn is_set(lits: &[u32], at: &[usize], v: usize) -> bool
+    requires placed { IsPlaced (length at.now) lits.now at.now }
+    requires within { v < length at.now }
+    ensures { (l : ℕ) → StandsBelow lits.now (length lits.now) l → l / 2 ≡ v → result ≡ (l % 2 == 0) }
+{
+    let place = at[v];
+    place != 0 && lits[place - 1] % 2 == 0
+}
+
+/// Whether an assignment satisfies all clauses, with one that does or with a derivation of the empty clause.
+pub fn solve(alloc: Global, vars: usize, formula: &Arena<u32>) -> Result<Answer, AllocError>
+    requires few { vars < 2 ^ 31 }
+    requires within { AreWithin vars formula.now }
+    ensures { IfOk result (IsAnswer vars formula.now) }
+{
+    let mut s = Solver {
+        db: copied(alloc, formula)?,
+        log: Vec::new(alloc),
+        trail: Trail::new(alloc, vars)?,
+    };
+    let mut w = Watches::new(alloc, vars)?;
+    let mut order = Order::new(alloc, vars)?;
+    w.attach(&s)?;
+    read_all(vars, formula, &mut s)?;
+    let mut restarts: u32 = 0;
+    let mut conflicts: u32 = 0;
+    let mut from = 0;
+    'steps: loop {
+        if conflicts >= pace(restarts) && restarts < 1000 {
+            restarts += 1;
+            conflicts = 0;
+            restart(vars, formula, &mut s, &mut order)?;
+            from = s.trail.lits.len();
+            w.forget_at(&s, formula.len(), restarts);
+        } else {
+            let known = s.db.len();
+            match step(alloc, vars, formula, &mut s, &mut w, &mut order, from)? {
+                Gone::On => {}
+                Gone::Refuted => return Ok(Answer::Unsat(s.log)),
+                Gone::Full => return Ok(Answer::Sat(row_of(alloc, &s.trail.lits, &s.trail.at)?)),
+            }
+            if s.db.len() > known {
+                conflicts = conflicts.saturating_add(1);
+                w.attach(&s)?;
+                raise_last(&s, &mut order);
+            }
+            from = s.trail.lits.len().saturating_sub(1);
+        }
+    }
+}
+
+// Whether all literals are within the variables.
+fn row_within(clause: &[u32], vars: usize) -> bool
+    requires { vars < 2 ^ 31 }
+    ensures { result ≡ true → All (λ l. l < 2 * vars) clause.now }
+{
+    for lit in clause {
+        if *lit as usize >= 2 * vars {
+            return false;
+        }
+    }
+    true
+}
+
+/// Whether all clauses are within the variables.
+pub fn all_within(cnf: &Arena<u32>, vars: usize) -> bool
+    requires { vars < 2 ^ 31 }
+    ensures { result ≡ true → AreWithin vars cnf.now }
+{
+    for i in 0..cnf.len() {
+        if !row_within(cnf.get(i), vars) {
+            return false;
+        }
+    }
+    true
+}
+
+// How many conflicts until the next restart.
+fn pace(restarts: u32) -> u32 {
+    match restarts % 8 {
+        7 => 1600,
+        3 => 400,
+        1 => 200,
+        5 => 200,
+        _ => 100,
+    }
+}
+
+// Another arena with the same clauses.
+fn copied(alloc: Global, clauses: &Arena<u32>) -> Result<Arena<u32>, AllocError>
+    ensures { IfOk result (λ c. c ≡ clauses.now) }
+{
+    let mut copied = Arena::new(alloc);
+    for i in 0..clauses.len() {
+        copied.add(clauses.get(i))?;
+    }
+    Ok(copied)
+}

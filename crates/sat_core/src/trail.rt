@@ -1,0 +1,144 @@
+//! The trail.
+
+ghost use Rattle.std.specs.Prelude.{MatchOption, IfSome, IfNone, if◌then◌else◌, ◌≡◌, ◌≢◌, ◌≤◌, ◌<◌, ◌+◌, ◌-◌, ◌*◌, ◌/◌, ◌%◌, ◌^◌, ◌++◌, ◌∷◌, [], ℕ, Bool, true, false, List, IfOk, OnOk, OnErr, length, slice_index, slice_index_or, slice_set, map, take, reverse, vec_len, vec_capacity, ◌⊎◌, ◌↔◌, IsTrue};
+ghost use Rattle.sat_core.specs.Trail.{IsPlaced, AreStarts, StandsBelow, IsLevelOf};
+
+use crate::solving::level_below;
+use std::alloc::{AllocError, Global};
+
+/// What is assigned, from the oldest on.
+#[derive(Drop)]
+pub struct Trail {
+    pub lits: Vec<u32>,
+    pub reasons: Vec<u64>,
+    pub at: Vec<usize>,
+    pub starts: Vec<usize>,
+    ghost placed: { IsPlaced (length at.items) lits.items at.items },
+    ghost same: { length reasons.items ≡ length lits.items },
+    ghost levels: { AreStarts reasons.items starts.items },
+    ghost few: { length at.items < 2 ^ 31 },
+    ghost lits_room: { length at.items ≤ vec_capacity lits },
+    ghost reasons_room: { length at.items ≤ vec_capacity reasons },
+    ghost starts_room: { length at.items ≤ vec_capacity starts },
+}
+
+impl Trail {
+    pub fn new(alloc: Global, vars: usize) -> Result<Trail, AllocError>
+        requires { vars < 2 ^ 31 }
+        ensures lits { IfOk result (λ t. t.lits.items ≡ []) }
+        ensures size { IfOk result (λ t. length t.at.items ≡ vars) }
+    {
+        let at = vec![in alloc; 0; vars]?;
+        let lits = Vec::with_capacity(alloc, vars)?;
+        let reasons = Vec::with_capacity(alloc, vars)?;
+        let starts = Vec::with_capacity(alloc, vars)?;
+        Ok(Trail {
+            lits,
+            reasons,
+            at,
+            starts,
+        })
+    }
+
+    /// A variable's value.
+    pub fn value(&self, var: usize) -> Option<bool>
+        requires { var < length self.now.at.items }
+        ensures { MatchOption result (slice_index self.now.at.items var ≡ 0) (λ b. StandsBelow self.now.lits.items (length self.now.lits.items) (if b then 2 * var else 2 * var + 1)) }
+    {
+        let place = self.at[var];
+        if place == 0 {
+            return None;
+        }
+        Some(self.lits[place - 1] % 2 == 0)
+    }
+
+    /// A variable's level: how many levels begin at or before its place.
+    pub fn level(&self, var: usize) -> Option<usize>
+        requires { var < length self.now.at.items }
+        ensures { MatchOption result (slice_index self.now.at.items var ≡ 0) (IsLevelOf self.now.starts.items (slice_index self.now.at.items var - 1)) }
+    {
+        let after = self.at[var];
+        if after == 0 {
+            return None;
+        }
+        Some(level_below(&self.starts, after))
+    }
+
+    /// The clause that implied a variable's value.
+    pub fn reason(&self, var: usize) -> Option<u64>
+        requires { var < length self.now.at.items }
+        ensures some { IfSome result (λ r. (0 < slice_index self.now.at.items var) × (0 < r) × (r ≡ slice_index self.now.reasons.items (slice_index self.now.at.items var - 1))) }
+        ensures none { IfNone result ((slice_index self.now.at.items var ≡ 0) ⊎ (slice_index self.now.reasons.items (slice_index self.now.at.items var - 1) ≡ 0)) }
+    {
+        let place = self.at[var];
+        if place == 0 {
+            return None;
+        }
+        let reason = self.reasons[place - 1];
+        if reason == 0 { None } else { Some(reason) }
+    }
+
+    /// Adds a literal that a clause implies.
+    pub fn imply(&mut self, lit: u32, reason: u64)
+        requires within { lit / 2 < length self.old.at.items }
+        requires free { slice_index self.old.at.items (lit / 2) ≡ 0 }
+        requires reason { 0 < reason }
+        ensures lits { self.new.lits.items ≡ self.old.lits.items ++ lit ∷ [] }
+        ensures reasons { self.new.reasons.items ≡ self.old.reasons.items ++ reason ∷ [] }
+        ensures size { length self.new.at.items ≡ length self.old.at.items }
+    {
+        let place = self.lits.len();
+        self.at[lit as usize / 2] = place + 1;
+        self.lits.push_reserved(lit);
+        self.reasons.push_reserved(reason);
+    }
+
+    /// Opens a level with a literal.
+    pub fn decide(&mut self, lit: u32)
+        requires within { lit / 2 < length self.old.at.items }
+        requires free { slice_index self.old.at.items (lit / 2) ≡ 0 }
+        ensures lits { self.new.lits.items ≡ self.old.lits.items ++ lit ∷ [] }
+        ensures reasons { self.new.reasons.items ≡ self.old.reasons.items ++ 0 ∷ [] }
+        ensures size { length self.new.at.items ≡ length self.old.at.items }
+    {
+        let place = self.lits.len();
+        self.at[lit as usize / 2] = place + 1;
+        self.lits.push_reserved(lit);
+        self.reasons.push_reserved(0);
+        self.starts.push_reserved(place);
+    }
+
+    /// Takes back all from the start of a level on.
+    pub fn back_to(&mut self, level: usize)
+        requires { level < length self.old.starts.items }
+        ensures lits { self.new.lits.items ≡ take (slice_index self.old.starts.items level) self.old.lits.items }
+        ensures reasons { self.new.reasons.items ≡ take (slice_index self.old.starts.items level) self.old.reasons.items }
+        ensures size { length self.new.at.items ≡ length self.old.at.items }
+    {
+        let Trail {
+            lits,
+            reasons,
+            at,
+            starts,
+        } = self;
+        let cut = starts[level];
+        unwind(lits, at, cut);
+        reasons.truncate(cut);
+        starts.truncate(level);
+    }
+}
+
+// Takes back literals.
+fn unwind(lits: &mut Vec<u32>, at: &mut Vec<usize>, cut: usize)
+    requires placed { IsPlaced (length at.old.items) lits.old.items at.old.items }
+    requires cut { cut ≤ length lits.old.items }
+    ensures placed { IsPlaced (length at.old.items) lits.new.items at.new.items }
+    ensures lits { lits.new.items ≡ take cut lits.old.items }
+    ensures room { vec_capacity lits.new ≡ vec_capacity lits.old }
+{
+    'back: while lits.len() > cut {
+        if let Some(lit) = lits.pop() {
+            at[lit as usize / 2] = 0;
+        }
+    }
+}
