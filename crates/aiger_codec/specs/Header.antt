@@ -1,5 +1,5 @@
 -- The header, with the first fault.
-use Rattle.std.specs.Prelude.{ℕ, ◌+◌, Bool, true, false, not, ◌==◌, ◌&&◌, ◌||◌, leb, if◌then◌else◌, List, length, Option, Some, None, Result, Ok, Err, slice_index}
+use Rattle.std.specs.Prelude.{ℕ, ◌+◌, ◌≤◌, Bool, true, false, not, ◌==◌, ◌&&◌, ◌||◌, leb, if◌then◌else◌, List, length, Option, Some, None, Result, Ok, Err, slice_index}
 use Rattle.aiger_codec.specs.Lines.{fault, has_end, numbers_at}
 use Rattle.aiger_codec.specs.declared.fault.NetFault.{NetFault}
 use Rattle.aiger_codec.specs.declared.fault.NetKind.{NetKind}
@@ -49,3 +49,9 @@ formed bytes (Some binary) = if has_end bytes then numbered binary (header_numbe
 
 unfoldable pub header_at : List ℕ → Result Header NetFault
 header_at bytes = formed bytes (form_of bytes)
+
+-- what the checks leave: no more variables and outputs than the limits, and no more inputs, latches and gates than variables
+pub record IsWithinLimits (h : Header) : Type 0 where
+  pub variables : h.m ≤ 1000000
+  pub outputs : h.o ≤ 1000000
+  pub sections : h.i + h.l + h.a ≤ h.m

@@ -1,4 +1,5 @@
-ghost use Rattle.std.specs.Prelude.{◌≡◌, ◌≤◌, ◌<◌, take, drop, length, MatchOption, MatchResult, Some, None, Ok, Err, IsTrue};
+// Lines of numbers. They go into an array that outlives the lines, so that a line costs no memory.
+ghost use Rattle.std.specs.Prelude.{◌≡◌, ◌≤◌, ◌<◌, take, drop, length, MatchOption, MatchResult, IfSome, Some, None, Ok, Err, IsTrue};
 ghost use Rattle.aiger_codec.specs.Numbers.{number_at};
 ghost use Rattle.aiger_codec.specs.Lines.{has_end, numbers_at, line_at};
 
@@ -24,7 +25,8 @@ pub fn numbers_from(
     into: &mut [u32; 9],
 ) -> Option<(usize, usize)>
     requires { most ≤ 9 }
-    ensures { MatchOption result (numbers_at most bytes.now start ≡ None) (λ r. (r.0 ≤ most) × (numbers_at most bytes.now start ≡ Some (take r.0 into.new, r.1))) }
+    ensures within { IfSome result (λ r. r.1 ≤ length bytes.now) }
+    ensures value { MatchOption result (numbers_at most bytes.now start ≡ None) (λ r. (r.0 ≤ most) × (numbers_at most bytes.now start ≡ Some (take r.0 into.new, r.1))) }
 {
     let mut at = start;
     for i in 0..most {

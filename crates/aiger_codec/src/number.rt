@@ -1,3 +1,4 @@
+// Decimal numbers. A value past 4294967295 counts as that.
 ghost use Rattle.std.specs.Prelude.{◌≡◌, ◌≤◌, ◌<◌};
 ghost use Rattle.aiger_codec.specs.Numbers.{number_at};
 
