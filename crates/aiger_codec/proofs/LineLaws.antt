@@ -10,7 +10,7 @@ use Rattle.aiger_codec.specs.declared.fault.NetFault.{NetFault}
 use Rattle.aiger_codec.proofs.Ends.{chosen, first_of, others_of, line_read}
 use Rattle.aiger_codec.proofs.Spelled.{is_of_digit, number_made, number_takes, line_takes, line_again}
 
-no_more : (most : ℕ) (bytes : List ℕ) (at : ℕ) (x : List ℕ × ℕ) → numbers_at most bytes at ≡ Some x → length x.0 ≤ most
+pub no_more : (most : ℕ) (bytes : List ℕ) (at : ℕ) (x : List ℕ × ℕ) → numbers_at most bytes at ≡ Some x → length x.0 ≤ most
 unfolding numbers_at
 no_more zero bytes at x e = absurd cc
 no_more (suc more) bytes at x e =

@@ -13,7 +13,7 @@ use Rattle.aiger_codec.proofs.Ends.{some_is, first_of, others_of}
 pub record Stands (bytes : List ℕ) (at : ℕ) (text rest : List ℕ) : Type 0 where
   pub is : drop at bytes ≡ text ++ rest
 
-and_both : (a b : Bool) → (a && b) ≡ true → (a ≡ true) × (b ≡ true)
+pub and_both : (a b : Bool) → (a && b) ≡ true → (a ≡ true) × (b ≡ true)
 and_both true b e = (refl, e)
 and_both false b e = absurd cc
 
@@ -71,7 +71,7 @@ rest_after bytes at text b rest s =
     ap (λ (k : ℕ). drop k bytes) e ∙ sym (drop-drop (length text + 1) at bytes) ∙ ap (λ (l : List ℕ). drop (length text + 1) l) s.is ∙ drop-append-add text (b ∷ rest) 1
 
 -- a byte that isn't 0 stands within
-byte_here : (bytes : List ℕ) (i b : ℕ) → get_or bytes i 0 ≡ b → 0 < b → drop i bytes ≡ b ∷ drop (i + 1) bytes
+pub byte_here : (bytes : List ℕ) (i b : ℕ) → get_or bytes i 0 ≡ b → 0 < b → drop i bytes ≡ b ∷ drop (i + 1) bytes
 byte_here bytes i b e lt =
     elim (cases_lt i (length bytes)) [
       | inl within ↦

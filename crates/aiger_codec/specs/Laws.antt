@@ -2,7 +2,9 @@
 use Rattle.std.specs.Prelude.{◌≡◌, ℕ, ◌+◌, ◌^◌, ◌<◌, ◌≤◌, List, [], ◌++◌, length, drop, slice_index, Some, Ok}
 use Rattle.aiger_codec.specs.Numbers.{digits, number_at}
 use Rattle.aiger_codec.specs.Lines.{line_at}
-use Rattle.aiger_codec.specs.Grammar.{SpellsNumber, SpellsLine}
+use Rattle.aiger_codec.specs.Grammar.{SpellsNumber, SpellsLine, SpellsHeader}
+use Rattle.aiger_codec.specs.Header.{header_at}
+use Rattle.aiger_codec.specs.declared.header.Header.{Header}
 use Rattle.aiger_codec.specs.Deltas.{delta_at, IsSpelled, shortest}
 use Rattle.aiger_codec.specs.declared.delta.Delta.TheVariants.{Value}
 
@@ -42,3 +44,9 @@ ShortestIsSpelled = (n : ℕ) → n < 2 ^ 32 → IsSpelled (shortest n) n × (le
 
 abbrev pub NoneIsShorter : Type 0
 NoneIsShorter = (text : List ℕ) (n : ℕ) → IsSpelled text n → length (shortest n) ≤ length text
+
+abbrev pub HeaderIsSpelled : Type 0
+HeaderIsSpelled = (bytes : List ℕ) (h : Header) → header_at bytes ≡ Ok h → (text : List ℕ) × SpellsHeader text h × StandsAt bytes 0 text h.end (drop h.end bytes)
+
+abbrev pub SpelledHeaderIsRead : Type 0
+SpelledHeaderIsRead = (bytes : List ℕ) (h : Header) (text rest : List ℕ) → SpellsHeader text h → StandsAt bytes 0 text h.end rest → header_at bytes ≡ Ok h

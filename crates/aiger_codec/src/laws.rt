@@ -1,5 +1,5 @@
 // What is true of the spellings: each is read again, and nothing else is read.
-ghost use Rattle.aiger_codec.specs.Laws.{NumberIsSpelled, SpelledNumberIsRead, LineIsSpelled, SpelledLineIsRead, DeltaIsSpelled, SpelledDeltaIsRead, ShortestIsSpelled, NoneIsShorter};
+ghost use Rattle.aiger_codec.specs.Laws.{NumberIsSpelled, SpelledNumberIsRead, LineIsSpelled, SpelledLineIsRead, DeltaIsSpelled, SpelledDeltaIsRead, ShortestIsSpelled, NoneIsShorter, HeaderIsSpelled, SpelledHeaderIsRead};
 
 /// Decimal numbers and lines of them, both ways.
 pub fn numbers_and_lines()
@@ -15,4 +15,10 @@ pub fn binary_numbers()
     ensures read_again { SpelledDeltaIsRead }
     ensures written { ShortestIsSpelled }
     ensures shortest { NoneIsShorter }
+{}
+
+/// The header, both ways.
+pub fn headers()
+    ensures read { HeaderIsSpelled }
+    ensures read_again { SpelledHeaderIsRead }
 {}
