@@ -8,3 +8,5 @@ pub mod OneRow
 pub mod TableRead
 pub mod Tabling
 pub mod States
+pub mod Signalling
+pub mod Walking

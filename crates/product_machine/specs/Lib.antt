@@ -4,3 +4,5 @@ pub mod Faults
 pub mod Laws
 pub mod Tables
 pub mod States
+pub mod Signals
+pub mod Walk

@@ -14,7 +14,7 @@ use circ_model::{Gate, Latch, Lit};
 use std::alloc::{AllocError, Global};
 
 // The variable at a place of a netlist.
-fn variable_at(net: &Netlist, q: u32) -> u32
+pub(crate) fn variable_at(net: &Netlist, q: u32) -> u32
     requires { q < length (variables net.now) }
     ensures { result ≡ slice_index (variables net.now) q }
 {
@@ -126,7 +126,7 @@ fn push_inputs(cells: &mut Vec<Cell>, inputs: &[u32]) -> Result<(), AllocError>
 }
 
 // The number of latches and gates.
-fn own_count(net: &Netlist) -> u32
+pub(crate) fn own_count(net: &Netlist) -> u32
     requires { IsSound net.now }
     ensures count { result ≡ length (own net.now) }
     ensures few { result ≤ 1000001 }
@@ -135,7 +135,7 @@ fn own_count(net: &Netlist) -> u32
 }
 
 // The number of variables, the constant included.
-fn variable_count(net: &Netlist) -> u32
+pub(crate) fn variable_count(net: &Netlist) -> u32
     requires { IsSound net.now }
     ensures count { result ≡ length (variables net.now) }
     ensures few { result ≤ 1000001 }
@@ -182,8 +182,8 @@ fn push_outputs(
 // The place of each variable of both sides.
 #[derive(Drop)]
 pub(crate) struct Tables {
-    left: Vec<u32>,
-    right: Vec<u32>,
+    pub left: Vec<u32>,
+    pub right: Vec<u32>,
 }
 
 pub(crate) fn tables_of(

@@ -5,9 +5,15 @@
 mod build;
 mod cell;
 mod laws;
+mod path;
 mod product;
 mod rows;
+mod same;
+mod signals;
+mod walk;
 
 pub use cell::Cell;
 pub use laws::{cells_of_pairs, paths_of_values, values_of_cells};
+pub use path::Path;
 pub use product::{PairFault, Product};
+pub use walk::Scratch;

@@ -8,9 +8,11 @@ ghost use Rattle.product_machine.specs.Cells.{EachAt};
 ghost use Rattle.product_machine.specs.Eval.{IsFrame, Ready};
 ghost use Rattle.product_machine.specs.Cells.{cells};
 ghost use Rattle.product_machine.specs.Faults.{Pairs};
+ghost use Rattle.product_machine.specs.Tables.{Places};
+ghost use Rattle.circ_model.specs.Netlist.{own};
 
 use crate::Cell;
-use crate::build::{cells_of, nexts_of, outputs_of, tables_of};
+use crate::build::{Tables, cells_of, nexts_of, outputs_of, tables_of};
 use crate::rows::{both, copy_bits, value_of};
 use aig_graph::Netlist;
 use bit_rows::BitRow;
@@ -26,6 +28,7 @@ pub struct Product {
     table: Vec<Cell>,
     next_literals: Vec<Lit>,
     output_literals: Vec<(Lit, Lit)>,
+    tables: Tables,
 }
 
 impl Model for Product {
@@ -33,6 +36,7 @@ impl Model for Product {
     ghost use Rattle.circ_model.specs.Meaning.{Pair, IsSoundPair};
     ghost use Rattle.product_machine.specs.Cells.{cells};
     ghost use Rattle.product_machine.specs.States.{nexts, output_pairs};
+    ghost use Rattle.product_machine.specs.Tables.{AreTables};
 
     ghost Value = { Pair };
 
@@ -41,7 +45,8 @@ impl Model for Product {
     ghost invariant = { λ p. IsSoundPair (record { left = p.left; right = p.right })
         × (p.table.items ≡ cells (record { left = p.left; right = p.right }))
         × (p.next_literals.items ≡ nexts (record { left = p.left; right = p.right }))
-        × (p.output_literals.items ≡ output_pairs (record { left = p.left; right = p.right })) };
+        × (p.output_literals.items ≡ output_pairs (record { left = p.left; right = p.right }))
+        × AreTables (record { left = p.left; right = p.right }) p.tables.left.items p.tables.right.items };
 }
 
 /// Why two netlists are no pair.
@@ -80,6 +85,7 @@ impl Product {
             table: cells_of(alloc, &left, &right, &tables)?,
             next_literals: nexts_of(alloc, &left, &right, &tables)?,
             output_literals: outputs_of(alloc, &left, &right, &tables)?,
+            tables,
             left,
             right,
         })
@@ -201,12 +207,27 @@ impl Product {
         }
     }
 
+    // The place of each variable of the left netlist, and of the right one.
+    pub(crate) fn left_places(&self) -> &[u32]
+        ensures { Places self.entry.now.left 0 result.now }
+    {
+        self.tables.left.as_slice()
+    }
+
+    pub(crate) fn right_places(&self) -> &[u32]
+        ensures { Places self.entry.now.right (length (own self.entry.now.left)) result.now }
+    {
+        self.tables.right.as_slice()
+    }
+
+    /// The left netlist.
     pub fn left(&self) -> &Netlist
         ensures { result.now ≡ self.entry.now.left }
     {
         &self.left
     }
 
+    /// The right netlist.
     pub fn right(&self) -> &Netlist
         ensures { result.now ≡ self.entry.now.right }
     {

@@ -1,0 +1,102 @@
+//! From frame to frame of a path: whether a path is a run, and the values of a frame.
+ghost use Rattle.std.specs.Prelude.{◌≡◌, ◌<◌, ◌≤◌, ◌+◌, ◌*◌, ◌/◌, ℕ, List, Bool, true, false, IsTrue, IfOk, ◌↔◌, length, replicate, slice_index_or};
+ghost use Rattle.circ_model.specs.declared.netlist.Reset.TheVariants.{Zero, One, Free};
+ghost use Rattle.circ_model.specs.Meaning.{bit, latches_of, places_of, resets, IsPath, IsRun, MayStartAt, row_at};
+ghost use Rattle.product_machine.specs.Walk.{FitsPair};
+
+use crate::path::Path;
+use crate::product::Product;
+use bit_rows::BitRow;
+use circ_model::Reset;
+use std::alloc::{AllocError, Global};
+use std::marker::Model;
+
+/// Rows that a walk along a path writes: the state of a frame, and its values. It serves the pair of netlists for which it was made.
+#[derive(Drop)]
+pub struct Scratch {
+    state: BitRow,
+    values: BitRow,
+}
+
+impl Model for Scratch {
+    ghost use Rattle.product_machine.specs.Walk.{Frame};
+
+    ghost Value = { Frame };
+
+    ghost view = { λ s. record { state = s.state; values = s.values } };
+}
+
+impl Scratch {
+    /// Rows for one pair of netlists.
+    pub fn for_product(alloc: Global, product: &Product) -> Result<Scratch, AllocError>
+        ensures { IfOk result (FitsPair product.now) }
+    {
+        let state = BitRow::with_len(alloc, product.latches())?;
+        let values = BitRow::with_len(alloc, product.len())?;
+        Ok(Scratch { state, values })
+    }
+
+    /// The values of the frame to which the last walk went.
+    pub fn values(&self) -> &BitRow
+        ensures { result.now ≡ self.entry.now.values }
+    {
+        &self.values
+    }
+}
+
+impl Product {
+    /// Whether a path starts as the resets say.
+    pub fn is_run(&self, path: &Path) -> bool
+        requires { IsPath self.now path.now }
+        ensures { IsTrue result ↔ IsRun self.now path.now }
+    {
+        for i in 0..self.latches() {
+            if !may_start_at(self.reset(i), path.start.get(i)) {
+                return false;
+            }
+        }
+        true
+    }
+
+    /// Writes the values of frame t of a path, counted from 0, by a walk through the frames before it.
+    pub fn values_at(&self, path: &Path, t: u64, scratch: &mut Scratch)
+        requires path { IsPath self.now path.now }
+        requires frame { t < length path.now.inputs }
+        requires scratch { FitsPair self.now scratch.old }
+        ensures values { scratch.new.values ≡ row_at self.now path.now t }
+        ensures scratch { FitsPair self.now scratch.new }
+    {
+        self.walk(path, t, &mut scratch.state, &mut scratch.values);
+    }
+
+    // Writes the state and the values of frame t.
+    fn walk(&self, path: &Path, t: u64, state: &mut BitRow, values: &mut BitRow)
+        requires path { IsPath self.now path.now }
+        requires frame { t < length path.now.inputs }
+        requires state { length state.old ≡ latches_of self.now }
+        requires values { length values.old ≡ places_of self.now }
+        ensures row { values.new ≡ row_at self.now path.now t }
+        ensures state { length state.new ≡ latches_of self.now }
+        ensures values { length values.new ≡ places_of self.now }
+    {
+        let _cells = self.cells();
+        state.copy_from(&path.start);
+        for s in 0..t {
+            self.eval(state, path.inputs.row(s), values);
+            self.next_state(values, state);
+        }
+        self.eval(state, path.inputs.row(t), values);
+    }
+}
+
+// Whether a latch with this reset may start at this bit.
+fn may_start_at(reset: Reset, start: bool) -> bool
+    ensures yes { IsTrue result → MayStartAt reset start }
+    ensures no { MayStartAt reset start → IsTrue result }
+{
+    match reset {
+        Reset::Zero => !start,
+        Reset::One => start,
+        Reset::Free => true,
+    }
+}
