@@ -1,11 +1,10 @@
 -- What is read of a section is spelled so and adds so, and what is spelled so and adds so is read.
-use Rattle.std.proofs.Common.{◌≡◌, ℕ, zero, suc, ◌+◌, ◌≤◌, inl, inr, leb, List, [], ◌∷◌, ◌++◌, length, drop, Option, Some, None, Result, Ok, Err, refl, sym, ap, ap₂, subst, ◌∙◌, arith, append_assoc, length-append}
-use Rattle.std.proofs.lemmas.Bool.{leb-true}
+use Rattle.std.proofs.Common.{◌≡◌, ℕ, zero, suc, ◌+◌, List, [], ◌∷◌, ◌++◌, length, drop, Result, Ok, Err, refl, sym, ap, ap₂, subst, ◌∙◌, arith, append_assoc, length-append}
 use Rattle.std.proofs.lemmas.List.{drop-drop}
 use Rattle.std.proofs.Math.Seq.{drop-append_seam}
-use Rattle.aiger_codec.specs.Lines.{has_end, has_count, numbers_at, line_at}
-use Rattle.aiger_codec.specs.declared.fault.NetFault.{NetFault}
-use Rattle.aiger_codec.proofs.Ends.{chosen, first_of, others_of, line_read}
+use Rattle.aiger_codec.specs.Lines.{line_at}
+use Rattle.aiger_codec.proofs.Ends.{line_read}
+use Rattle.aiger_codec.proofs.LineLaws.{line_is}
 use Rattle.aiger_codec.proofs.Spelled.{Stands, line_takes, line_again}
 use Rattle.aig_graph.specs.declared.fault.BuildFault.{BuildFault}
 use Rattle.circ_model.specs.Netlist.{Netlist}
@@ -22,57 +21,6 @@ and_then f (Err e) = Err e
 abbrev pub added_all : Section → List (List ℕ) → Netlist → Result Netlist BuildFault
 added_all section [] g = Ok g
 added_all section (ns ∷ others) g = and_then (added_all section others) (added section g ns)
-
-no_more : (most : ℕ) (bytes : List ℕ) (at : ℕ) (x : List ℕ × ℕ) → numbers_at most bytes at ≡ Some x → length x.0 ≤ most
-unfolding numbers_at
-no_more zero bytes at x e = absurd cc
-no_more (suc more) bytes at x e =
-    let f = first_of bytes more at x e in
-    elim f.goes [
-      | inl p ↦ let l : length x.0 ≡ length (f.value ∷ []) = ap (λ (y : List ℕ × ℕ). length y.0) p.1 in omega arith
-      | inr p ↦
-          let o = others_of f.value (numbers_at more bytes (f.end + 1)) x p.1 in
-          let h = no_more more bytes (f.end + 1) o.0 o.1 in
-          let l : length x.0 ≡ length (f.value ∷ o.0.0) = ap (λ (y : List ℕ × ℕ). length y.0) o.2 in
-          omega arith
-    ]
-
--- a line that was read
-pub record IsRead (least most : ℕ) (bytes : List ℕ) (at : ℕ) (x : List ℕ × ℕ) : Type 0 where
-  pub numbers : numbers_at most bytes at ≡ Some x
-  pub enough : least ≤ length x.0
-  pub few : length x.0 ≤ most
-
-abbrev done : List ℕ × ℕ → Result (List ℕ × ℕ) NetFault
-done x = Ok x
-
-ok_is : (x y : List ℕ × ℕ) → done x ≡ done y → x ≡ y
-ok_is x y e = cc
-
-counted : (least most : ℕ) (bytes : List ℕ) (at : ℕ) (x : List ℕ × ℕ) (r : Option (List ℕ × ℕ)) → numbers_at most bytes at ≡ r → has_count least at r ≡ Ok x → IsRead least most bytes at x
-counted least most bytes at x None is e = absurd cc
-counted least most bytes at x (Some y) is e =
-    elim (chosen (leb least (length y.0)) _ _ (done x) e) [
-      | inl p ↦
-          let same : y ≡ x = ok_is y x p.1 in
-          let numbers : numbers_at most bytes at ≡ Some x = is ∙ ap (λ (z : List ℕ × ℕ). Some z) same in
-          record { numbers = numbers; enough = subst (λ (z : List ℕ × ℕ). least ≤ length z.0) same (leb-true _ _ p.0); few = no_more most bytes at x numbers }
-      | inr p ↦ absurd (no_ok p.1)
-    ]
-  where
-    no_ok : {f : NetFault} → Err f ≡ Ok x → ⊥
-    no_ok e = cc
-
-line_is : (least most : ℕ) (bytes : List ℕ) (at : ℕ) (x : List ℕ × ℕ) → line_at least most bytes at ≡ Ok x → IsRead least most bytes at x
-unfolding line_at
-line_is least most bytes at x e =
-    elim (chosen (has_end (drop at bytes)) _ _ (Ok x) e) [
-      | inl p ↦ counted least most bytes at x (numbers_at most bytes at) refl p.1
-      | inr p ↦ absurd (no_ok p.1)
-    ]
-  where
-    no_ok : {f : NetFault} → Err f ≡ Ok x → ⊥
-    no_ok e = cc
 
 put_is : (at end : ℕ) (r : Result Netlist BuildFault) (s : Netlist × ℕ) → placed at end r ≡ Ok s → (r ≡ Ok s.0) × (end ≡ s.1)
 put_is at end (Ok g) s e = (cc, cc)

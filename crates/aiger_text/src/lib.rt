@@ -4,5 +4,7 @@
 
 mod body;
 mod section;
+#[cfg(test)]
+mod tests;
 
 pub use body::{read_text, spelled_text_is_read};
