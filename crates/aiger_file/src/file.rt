@@ -1,0 +1,51 @@
+ghost use Rattle.std.specs.Prelude.{◌≡◌, Result};
+ghost use Rattle.aig_graph.specs.Finish.{Finishes};
+ghost use Rattle.aiger_file.specs.Files.{IsReading, counts_of, after_symbols, IsFinish};
+
+use aig_graph::{BuildFault, NetBuilder, Netlist};
+use aiger_codec::{Counts, NetError, NetFault, NetKind, read_header, read_symbols};
+use aiger_text::read_text;
+use std::alloc::Global;
+
+/// The netlist of a file, or its first fault in reading order. A use without a definition and gates that wait for each other
+/// come after the whole file, at byte 0. A binary body is refused as a header so far.
+pub fn read_netlist(alloc: Global, bytes: &[u8]) -> Result<Netlist, NetError>
+    ensures { IsReading bytes.now result }
+{
+    let header = match read_header(bytes) {
+        Ok(header) => header,
+        Err(fault) => return Err(NetError::Refused(fault)),
+    };
+    if header.binary {
+        return Err(NetError::Refused(NetFault {
+            kind: NetKind::Header,
+            at: 0,
+        }));
+    }
+    let (builder, end) = match read_text(alloc, bytes, &header) {
+        Ok(read) => read,
+        Err(error) => return Err(error),
+    };
+    let counts = Counts {
+        inputs: header.i,
+        latches: header.l,
+        outputs: header.o,
+    };
+    match read_symbols(&counts, bytes, end as usize) {
+        Ok(_) => finish(alloc, builder),
+        Err(fault) => Err(NetError::Refused(fault)),
+    }
+}
+
+// The netlist, or what is wrong with the whole.
+fn finish(alloc: Global, builder: NetBuilder) -> Result<Netlist, NetError>
+    ensures { IsFinish builder result }
+{
+    let kind = match builder.finish(alloc) {
+        Ok(net) => return Ok(net),
+        Err(BuildFault::Undefined(_)) => NetKind::Undefined,
+        Err(BuildFault::Cyclic) => NetKind::Cyclic,
+        Err(_) => return Err(NetError::Memory),
+    };
+    Err(NetError::Refused(NetFault { kind, at: 0 }))
+}

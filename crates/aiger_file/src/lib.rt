@@ -1,0 +1,8 @@
+//! Whole AIGER files. A file is read in one pass: its header, its body, symbol lines, and then the end or a comment; what
+//! has no definition and what waits for itself is told last, after the whole file. So far the body is text.
+//! (The AIGER And-Inverter Graph format, Biere 2007, with the resets of AIGER 1.9.)
+#![tactic(auto)]
+
+mod file;
+
+pub use file::read_netlist;
