@@ -1,0 +1,4 @@
+pub mod Trying
+pub mod Telling
+pub mod Reporting
+pub mod Naming
