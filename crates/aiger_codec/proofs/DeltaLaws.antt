@@ -102,7 +102,7 @@ below_is n end (Value m k) e =
 below_is n end Cut e = absurd cc
 below_is n end Wide e = absurd cc
 
-byte_at : (bytes : List ℕ) (at : ℕ) → at < length bytes → drop at bytes ≡ get_or bytes at 0 ∷ drop (at + 1) bytes
+pub byte_at : (bytes : List ℕ) (at : ℕ) → at < length bytes → drop at bytes ≡ get_or bytes at 0 ∷ drop (at + 1) bytes
 byte_at bytes at within = rw add-one (drop-cons bytes at 0 within)
 
 -- so much of the bytes was read

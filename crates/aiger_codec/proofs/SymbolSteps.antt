@@ -34,11 +34,11 @@ pub symbol_after : (counts : Counts) (bytes : List ℕ) (at after : ℕ) → sym
 unfolding symbol_at
 symbol_after counts bytes at after e = line_after at _ (first_end (drop at bytes) at) after (λ end is. first_end_after (drop at bytes) at end is) e
 
-opened : (counts : Counts) (bytes : List ℕ) (at more : ℕ) (r : Result ℕ NetFault) → at < length bytes → (get_or bytes at 0 ≡ 99 → ⊥) → symbol_at counts bytes at ≡ r → symbols_at (suc more) counts bytes at ≡ next_symbol (symbols_at more counts bytes) r
+pub opened : (counts : Counts) (bytes : List ℕ) (at more : ℕ) (r : Result ℕ NetFault) → at < length bytes → (get_or bytes at 0 ≡ 99 → ⊥) → symbol_at counts bytes at ≡ r → symbols_at (suc more) counts bytes at ≡ next_symbol (symbols_at more counts bytes) r
 unfolding symbols_at
 opened counts bytes at more r lt ne e = let t = lt-ltb at (length bytes) lt in let c = ne_eqb (get_or bytes at 0) 99 ne in rw (t, c, e) refl
 
-closed : (counts : Counts) (bytes : List ℕ) (at fuel : ℕ) → (length bytes ≤ at) ⊎ (get_or bytes at 0 ≡ 99) → symbols_at fuel counts bytes at ≡ Ok at
+pub closed : (counts : Counts) (bytes : List ℕ) (at fuel : ℕ) → (length bytes ≤ at) ⊎ (get_or bytes at 0 ≡ 99) → symbols_at fuel counts bytes at ≡ Ok at
 unfolding symbols_at
 closed counts bytes at zero stop = refl
 closed counts bytes at (suc more) (inl le) = let t = le-ltb at (length bytes) le in rw t refl

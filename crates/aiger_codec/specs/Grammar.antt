@@ -1,9 +1,13 @@
--- What spells a number, and a line of numbers. Apart from the readers: a relation between the whole text and the values.
-use Rattle.std.specs.Prelude.{◌≡◌, ℕ, ◌+◌, ◌<◌, ◌≤◌, Bool, true, false, List, [], ◌∷◌, ◌++◌, length, slice_index, codes}
+-- What spells a number, a line of numbers, the header and a symbol line: relations between the whole text and what it
+-- says, apart from the readers.
+use Rattle.std.specs.Prelude.{◌≡◌, ℕ, zero, suc, ◌+◌, ◌<◌, ◌≤◌, Bool, true, false, List, [], ◌∷◌, ◌++◌, length, slice_index, codes}
 use Rattle.std.specs.List.{AllByRecursion}
 use Rattle.aiger_codec.specs.Numbers.{capped, value_from}
 use Rattle.aiger_codec.specs.Header.{IsWithinLimits}
+use Rattle.aiger_codec.specs.Lines.{has_end}
+use Rattle.aiger_codec.specs.Symbols.{count_of}
 use Rattle.aiger_codec.specs.declared.header.Header.{Header}
+use Rattle.aiger_codec.specs.declared.symbols.Counts.{Counts}
 
 abbrev pub IsDigit : ℕ → Type 0
 IsDigit b = (48 ≤ b) × (b ≤ 57)
@@ -49,3 +53,24 @@ pub record SpellsHeader (text : List ℕ) (h : Header) : Type 0 where
   pub says : SaysHeader numbers h
   pub limits : IsWithinLimits h
   pub all : h.binary ≡ true → h.i + h.l + h.a ≡ h.m
+
+-- a symbol line: its kind, a position that there is, a space, a name, and LF
+pub record SpellsSymbol (counts : Counts) (text : List ℕ) : Type 0 where
+  pub kind : ℕ
+  pub number : List ℕ
+  pub position : ℕ
+  pub name : List ℕ
+  pub is : text ≡ kind ∷ (number ++ 32 ∷ (name ++ 10 ∷ []))
+  pub spelled : SpellsNumber number position
+  pub there : position < count_of counts kind
+  pub one_line : has_end name ≡ false
+
+-- so many of them
+abbrev pub SpellsSymbols : Counts → ℕ → List ℕ → Type 0
+SpellsSymbols counts zero text = text ≡ []
+SpellsSymbols counts (suc n) text = (t : List ℕ) × (u : List ℕ) × SpellsSymbol counts t × SpellsSymbols counts n u × (text ≡ t ++ u)
+
+-- where reading ends: nothing follows, or a comment
+abbrev pub IsUnread : List ℕ → Type 0
+IsUnread [] = Unit {0}
+IsUnread (b ∷ bs) = b ≡ 99

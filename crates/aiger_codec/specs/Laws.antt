@@ -2,9 +2,11 @@
 use Rattle.std.specs.Prelude.{◌≡◌, ℕ, ◌+◌, ◌^◌, ◌<◌, ◌≤◌, List, [], ◌++◌, length, drop, slice_index, Some, Ok}
 use Rattle.aiger_codec.specs.Numbers.{digits, number_at}
 use Rattle.aiger_codec.specs.Lines.{line_at}
-use Rattle.aiger_codec.specs.Grammar.{SpellsNumber, SpellsLine, SpellsHeader}
+use Rattle.aiger_codec.specs.Grammar.{SpellsNumber, SpellsLine, SpellsHeader, SpellsSymbols, IsUnread}
 use Rattle.aiger_codec.specs.Header.{header_at}
+use Rattle.aiger_codec.specs.Symbols.{symbols_at}
 use Rattle.aiger_codec.specs.declared.header.Header.{Header}
+use Rattle.aiger_codec.specs.declared.symbols.Counts.{Counts}
 use Rattle.aiger_codec.specs.Deltas.{delta_at, IsSpelled, shortest}
 use Rattle.aiger_codec.specs.declared.delta.Delta.TheVariants.{Value}
 
@@ -50,3 +52,11 @@ HeaderIsSpelled = (bytes : List ℕ) (h : Header) → header_at bytes ≡ Ok h �
 
 abbrev pub SpelledHeaderIsRead : Type 0
 SpelledHeaderIsRead = (bytes : List ℕ) (h : Header) (text rest : List ℕ) → SpellsHeader text h → StandsAt bytes 0 text h.end rest → header_at bytes ≡ Ok h
+
+abbrev pub SymbolsAreSpelled : Type 0
+SymbolsAreSpelled = (counts : Counts) (bytes : List ℕ) (at end : ℕ) → symbols_at (length bytes) counts bytes at ≡ Ok end
+    → (n : ℕ) × (text : List ℕ) × SpellsSymbols counts n text × StandsAt bytes at text end (drop end bytes) × IsUnread (drop end bytes)
+
+abbrev pub SpelledSymbolsAreRead : Type 0
+SpelledSymbolsAreRead = (counts : Counts) (bytes : List ℕ) (at end n : ℕ) (text rest : List ℕ) → SpellsSymbols counts n text → StandsAt bytes at text end rest → IsUnread rest
+    → symbols_at (length bytes) counts bytes at ≡ Ok end

@@ -1,5 +1,5 @@
 // What is true of the spellings: each is read again, and nothing else is read.
-ghost use Rattle.aiger_codec.specs.Laws.{NumberIsSpelled, SpelledNumberIsRead, LineIsSpelled, SpelledLineIsRead, DeltaIsSpelled, SpelledDeltaIsRead, ShortestIsSpelled, NoneIsShorter, HeaderIsSpelled, SpelledHeaderIsRead};
+ghost use Rattle.aiger_codec.specs.Laws.{NumberIsSpelled, SpelledNumberIsRead, LineIsSpelled, SpelledLineIsRead, DeltaIsSpelled, SpelledDeltaIsRead, ShortestIsSpelled, NoneIsShorter, HeaderIsSpelled, SpelledHeaderIsRead, SymbolsAreSpelled, SpelledSymbolsAreRead};
 
 /// Decimal numbers and lines of them, both ways.
 pub fn numbers_and_lines()
@@ -21,4 +21,10 @@ pub fn binary_numbers()
 pub fn headers()
     ensures read { HeaderIsSpelled }
     ensures read_again { SpelledHeaderIsRead }
+{}
+
+/// Symbol lines up to the end or a comment, both ways.
+pub fn symbol_lines()
+    ensures read { SymbolsAreSpelled }
+    ensures read_again { SpelledSymbolsAreRead }
 {}

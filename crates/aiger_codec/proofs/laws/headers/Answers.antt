@@ -1,4 +1,5 @@
-use Rattle.aiger_codec.proofs.HeaderLaws.{header_spelled, header_is_read}
+use Rattle.aiger_codec.proofs.HeaderLaws.{header_spelled}
+use Rattle.aiger_codec.proofs.HeaderAgain.{header_is_read}
 use Rattle.aiger_codec.proofs.laws.headers.Goals as goal
 
 pub returns-clause-read : goal.returns-clause-read
