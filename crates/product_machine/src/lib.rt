@@ -10,6 +10,8 @@ mod product;
 mod rows;
 mod same;
 mod signals;
+#[cfg(test)]
+mod tests;
 mod walk;
 
 pub use cell::Cell;

@@ -45,6 +45,21 @@ impl Scratch {
 }
 
 impl Product {
+    /// Whether a path has the pair's widths: what the calls below ask for.
+    pub fn is_path(&self, path: &Path) -> bool
+        ensures { IsTrue result ↔ IsPath self.now path.now }
+    {
+        if path.start.len() != self.latches() {
+            return false;
+        }
+        for t in 0..path.inputs.len() {
+            if path.inputs.row(t).len() != self.inputs() {
+                return false;
+            }
+        }
+        true
+    }
+
     /// Whether a path starts as the resets say.
     pub fn is_run(&self, path: &Path) -> bool
         requires { IsPath self.now path.now }
