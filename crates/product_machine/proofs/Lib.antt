@@ -9,4 +9,5 @@ pub mod TableRead
 pub mod Tabling
 pub mod States
 pub mod Signalling
+pub mod Placing
 pub mod Walking

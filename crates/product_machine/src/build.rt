@@ -1,3 +1,5 @@
+//! The arrays of a pair, made from its two netlists: where each variable stands, what stands at each place, and the next
+//! literals and outputs, all as literals of the pair.
 ghost use Rattle.std.specs.Prelude.{◌≡◌, ◌<◌, ◌≤◌, ◌+◌, ◌-◌, ◌*◌, ◌/◌, ◌%◌, ◌++◌, ℕ, List, Bool, [], length, map, IfOk, OnOk, All, slice_index};
 ghost use Rattle.circ_model.specs.Netlist.{IsSound, variables};
 ghost use Rattle.std.specs.Prelude.{◌∷◌};

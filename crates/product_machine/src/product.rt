@@ -1,3 +1,5 @@
+//! A pair of netlists on shared inputs. What stands at each place is kept in one table, made once, so that a frame is one
+//! pass over it; next literals and outputs have arrays of their own. The product machine is van Eijk's (2000).
 ghost use Rattle.std.specs.Prelude.{◌≡◌, ◌<◌, ◌≤◌, ◌+◌, ◌*◌, ◌/◌, ℕ, List, Bool, false, length};
 ghost use Rattle.circ_model.specs.Meaning.{bit};
 ghost use Rattle.circ_model.specs.Meaning.{IsSoundPair, row, places_of, outputs_of, latches_of, resets, next_state, value_in};

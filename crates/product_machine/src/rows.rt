@@ -1,3 +1,4 @@
+//! Bits of rows: copies of parts, and the values of literals.
 ghost use Rattle.std.specs.Prelude.{◌≡◌, ◌<◌, ◌≤◌, ◌+◌, ◌-◌, ◌*◌, ◌/◌, ◌&&◌, ℕ, List, Bool, [], length};
 ghost use Rattle.circ_model.specs.Meaning.{bit, literal_value};
 

@@ -1,7 +1,7 @@
 use Rattle.std.proofs.Common.{◌≡◌, ◌∙◌, ◌-◌, ◌∷◌, ℕ, length, get_or, slice_index, ap, arith, length-append}
 use Rattle.circ_model.specs.Netlist.{variables, own}
 use Rattle.circ_model.proofs.Rows.{variables_split}
-use Rattle.product_machine.proofs.Signalling.{SaysOwn, says_own}
+use Rattle.product_machine.proofs.Placing.{SaysOwn, says_own}
 use Rattle.product_machine.proofs.signals.own_place.Goals.{then-place-shared-via-then-place-shared, then-place-shared-via-else-place-shared+then-place-count}
 use Rattle.product_machine.proofs.signals.own_place.Goals as goal
 

@@ -1,7 +1,8 @@
 use Rattle.std.proofs.Common.{◌∙◌, ◌+◌, length, ap, sym, subst, arith, Contains}
 use Rattle.circ_model.specs.Netlist.{Netlist, IsSound, own}
 use Rattle.product_machine.specs.Cells.{signals}
-use Rattle.product_machine.proofs.Signalling.{signal_const, signal_input, holds_input, left_within, left_found, left_none, right_within, right_found, right_none}
+use Rattle.product_machine.proofs.Signalling.{signal_const, signal_input, holds_input}
+use Rattle.product_machine.proofs.Placing.{left_within, left_found, left_none, right_within, right_found, right_none}
 use Rattle.product_machine.proofs.product.Product.place.Goals as goal
 
 pub own_place-requires-clause-sound : goal.own_place-requires-clause-sound

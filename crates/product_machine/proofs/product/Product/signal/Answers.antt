@@ -5,7 +5,8 @@ use Rattle.circ_model.specs.Meaning.{Pair}
 use Rattle.circ_model.proofs.Rows.{length_own, length_row_left}
 use Rattle.product_machine.specs.Signals.{signal_at}
 use Rattle.product_machine.proofs.Size.{few_places}
-use Rattle.product_machine.proofs.Signalling.{signal_const, signal_input, signal_left, signal_right, IsRightIndex, right_index}
+use Rattle.product_machine.proofs.Signalling.{signal_const, signal_input, signal_left, signal_right}
+use Rattle.product_machine.proofs.Placing.{IsRightIndex, right_index}
 use Rattle.product_machine.proofs.product.Product.signal.Goals as goal
 
 pub overflow_add-given : goal.overflow_add-given
