@@ -1,0 +1,3 @@
+pub mod OneNetlist
+pub mod OneComes
+pub mod OneReading

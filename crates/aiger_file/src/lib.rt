@@ -4,5 +4,7 @@
 #![tactic(auto)]
 
 mod file;
+mod laws;
 
 pub use file::read_netlist;
+pub use laws::one_reading;
