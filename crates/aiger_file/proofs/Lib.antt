@@ -1,3 +1,4 @@
 pub mod OneNetlist
 pub mod OneComes
 pub mod OneReading
+pub mod SpelledFile

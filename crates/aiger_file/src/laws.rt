@@ -1,4 +1,5 @@
-// The law that a file has one reading. Its function has an empty body; its contract is the law.
+// Laws on what a file means. Each function has an empty body; its contract is the law.
+ghost use Rattle.aiger_file.specs.Grammar.{FileIsSpelled, SpelledFileIsRead};
 ghost use Rattle.aiger_file.specs.Readings.{HasOneReading, OneNetlist, OneFirstFault, NeverBoth};
 
 /// Each list of bytes has a netlist or a first fault, only one, and never both.
@@ -7,4 +8,10 @@ pub fn one_reading()
     ensures one_netlist { OneNetlist }
     ensures one_fault { OneFirstFault }
     ensures never_both { NeverBoth }
+{}
+
+/// What is accepted is a text file of the format, and each text file of the format is accepted.
+pub fn text_files()
+    ensures is_spelled { FileIsSpelled }
+    ensures is_read { SpelledFileIsRead }
 {}

@@ -7,4 +7,4 @@ mod file;
 mod laws;
 
 pub use file::read_netlist;
-pub use laws::one_reading;
+pub use laws::{one_reading, text_files};
