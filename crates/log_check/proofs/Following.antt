@@ -1,8 +1,8 @@
 -- A line whose parts were tested, and lines one after the other.
-use Rattle.std.proofs.Common.{Some, ◌≡◌, ◌≢◌, ◌⊎◌, ⊎_elim, ◌≤◌, ◌<◌, ◌+◌, ◌-◌, ℕ, zero, suc, ℤ, pos, negsuc, neg_ℤ, ◌*◌, Bool, true, false, List, [], ◌∷◌, ◌++◌, map, length, get_or, take, drop, sym, ◌∙◌, ap, subst, refl, arith, add-one, append_assoc, length-append}
+use Rattle.std.proofs.Common.{Some, ◌≡◌, ◌≢◌, ⊎_elim, ◌≤◌, ◌<◌, ◌+◌, ◌-◌, ℕ, zero, suc, ℤ, pos, negsuc, neg_ℤ, ◌*◌, Bool, true, false, List, [], ◌∷◌, ◌++◌, map, length, get_or, take, drop, sym, ◌∙◌, ap, subst, refl, arith, append_assoc, length-append}
 use Rattle.std.proofs.Math.ListN.{drop_of_length-le}
 use Rattle.std.proofs.lemmas.Bool.{false≢true}
-use Rattle.std.proofs.lemmas.List.{append-nil, drop_more, take_more, map_more, get_or-map, get_or-take, get_or_append_left, get_or-append_right, length-take-le}
+use Rattle.std.proofs.lemmas.List.{append-nil, drop_more, map_more, get_or-map, get_or-take, get_or_append_left, get_or-append_right, length-take-le}
 use Rattle.std.proofs.lemmas.List.Elements.{All-push, All-contains}
 use Rattle.std.specs.List.{All, Contains}
 use Rattle.cnf_store.specs.Clauses.{IsLiteral, AreLiterals, AreClauses, Formula}
@@ -46,11 +46,11 @@ pub line_follows : (vars count : ℕ) (db : List (List ℤ)) (line : Line) (lite
     → assumed ≡ map neg_ℤ literals → AreMarks marks assumed → AreLiterals vars literals → All (λ h. (0 < h) × (h ≤ count)) hints → All (λ l. mark_at marks l ≡ false) literals
     → Decides b (Refutes db assumed hints) → Decides b (Follows vars db line)
 line_follows vars count db line literals assumed hints marks true l h s e w within known free r = record {
-    within = subst (AreLiterals vars) l within;
-    no_complement = subst (λ (xs : List ℤ). All (λ x. Contains xs (neg_ℤ x) → ⊥) xs) l (free_then marks literals (subst (AreMarks marks) e w) free);
-    earlier = subst (λ (k : ℕ). All (λ x. (0 < x) × (x ≤ k)) line.hints) s (subst (λ (hs : List ℕ). All (λ x. (0 < x) × (x ≤ count)) hs) h known);
-    refutes = subst (λ (a : List ℤ). Refutes db a line.hints) (e ∙ ap (map neg_ℤ) l) (subst (λ (hs : List ℕ). Refutes db assumed hs) h r);
-  }
+  within = subst (AreLiterals vars) l within;
+  no_complement = subst (λ (xs : List ℤ). All (λ x. Contains xs (neg_ℤ x) → ⊥) xs) l (free_then marks literals (subst (AreMarks marks) e w) free);
+  earlier = subst (λ (k : ℕ). All (λ x. (0 < x) × (x ≤ k)) line.hints) s (subst (λ (hs : List ℕ). All (λ x. (0 < x) × (x ≤ count)) hs) h known);
+  refutes = subst (λ (a : List ℤ). Refutes db a line.hints) (e ∙ ap (map neg_ℤ) l) (subst (λ (hs : List ℕ). Refutes db assumed hs) h r);
+}
 line_follows vars count db line literals assumed hints marks false l h s e w within known free n =
     λ f. n (subst (λ (hs : List ℕ). Refutes db assumed hs) (sym h) (subst (λ (a : List ℤ). Refutes db a line.hints) (sym (e ∙ ap (map neg_ℤ) l)) f.refutes))
 
@@ -105,7 +105,7 @@ lines_more formula log i lt f ways n t =
     let k : i + suc n ≡ i + 1 + n = omega arith in
     subst (λ (m : ℕ). FollowTo formula.vars formula.clauses log m) k
     (ways (suc n) (subst (λ (ls : List Line). FollowTo formula.vars (clauses_before formula log i) ls (suc n)) (sym (one_line log i lt))
-      (f, subst (λ (cs : List (List ℤ)). FollowTo formula.vars cs (drop (i + 1) log) n) (more_before formula log i lt) t)))
+    (f, subst (λ (cs : List (List ℤ)). FollowTo formula.vars cs (drop (i + 1) log) n) (more_before formula log i lt) t)))
 
 pub lines_stop : (formula : Formula) (log : List Line) (i : ℕ) → i < length log → (Follows formula.vars (clauses_before formula log i) (line_at log i) → ⊥)
     → ((n : ℕ) → FollowTo formula.vars (clauses_before formula log i) (drop i log) n → FollowTo formula.vars formula.clauses log (i + n)) → FollowTo formula.vars formula.clauses log i

@@ -1,6 +1,6 @@
 -- One clause after what is assumed.
-use Rattle.std.proofs.Common.{◌≡◌, ◌≢◌, ◌≤◌, ◌<◌, ◌+◌, ◌-◌, ◌*◌, ℕ, ℤ, pos, neg_ℤ, zero, suc, Bool, true, false, List, [], ◌∷◌, ◌++◌, length, get_or, map, drop, sym, ◌∙◌, ap, subst, refl, arith, ◌⊎◌, inl, inr, ⊎_elim, add-one, drop-cons}
-use Rattle.std.proofs.lemmas.Bool.{cases_eq, false≢true}
+use Rattle.std.proofs.Common.{◌≡◌, ◌≢◌, ◌≤◌, ◌<◌, ◌+◌, ℕ, ℤ, pos, neg_ℤ, Bool, true, false, List, [], ◌∷◌, ◌++◌, length, get_or, sym, ◌∙◌, ap, subst, refl, arith, ◌⊎◌, inl, inr, ⊎_elim}
+use Rattle.std.proofs.lemmas.Bool.{false≢true}
 use Rattle.std.specs.List.{All, Contains}
 use Rattle.std.proofs.lemmas.List.{get_or_default, get_or-take, length-take, take_more, take_all}
 use Rattle.std.proofs.lemmas.List.Elements.{All-take}
@@ -19,11 +19,11 @@ Alike a b = ((l : ℤ) → Contains a l → Contains b l) × ((l : ℤ) → Cont
 
 leaves_alike : (a b clause : List ℤ) (l : ℤ) → Alike a b → LeavesOnly a clause l → LeavesOnly b clause l
 leaves_alike a b clause l same o = record {
-    inside = o.inside;
-    not_true = λ c. o.not_true (same.1 l c);
-    not_false = λ c. o.not_false (same.1 (neg_ℤ l) c);
-    others = λ k d lt. ⊎_elim (λ e. inl e) (λ c. inr (same.0 _ c)) (o.others k d lt);
-  }
+  inside = o.inside;
+  not_true = λ c. o.not_true (same.1 l c);
+  not_false = λ c. o.not_false (same.1 (neg_ℤ l) c);
+  others = λ k d lt. ⊎_elim (λ e. inl e) (λ c. inr (same.0 _ c)) (o.others k d lt);
+}
 
 alike_more : (a b : List ℤ) (l : ℤ) → Alike a b → Alike (l ∷ a) (l ∷ b)
 alike_more a b l same = (more a b same.0, more b a same.1)
@@ -38,8 +38,9 @@ refutes_alike db a b (h ∷ i ∷ hs) same (l, only, r) = (l, leaves_alike a b (
 
 pub push_alike : (a : List ℤ) (l : ℤ) → Alike (l ∷ a) (a ++ l ∷ [])
 push_alike a l = (
-    (λ m c. ⊎_elim (λ (e : l ≡ m). subst (Contains (a ++ l ∷ [])) e (Contains-push a l)) (λ (h : Contains a m). Contains-append_left a (l ∷ []) m h) (contains_cases l m a c)),
-    (λ m c. ⊎_elim (λ (h : Contains a m). contains_tail l m a h) (λ (e : l ≡ m). subst (Contains (l ∷ a)) e (contains_head l a)) (Contains-push_cases a l m c)))
+  (λ m c. ⊎_elim (λ (e : l ≡ m). subst (Contains (a ++ l ∷ [])) e (Contains-push a l)) (λ (h : Contains a m). Contains-append_left a (l ∷ []) m h) (contains_cases l m a c)),
+  (λ m c. ⊎_elim (λ (h : Contains a m). contains_tail l m a h) (λ (e : l ≡ m). subst (Contains (l ∷ a)) e (contains_head l a)) (Contains-push_cases a l m c)),
+)
 
 -- only one literal is left alone
 pub one_left : (a clause : List ℤ) (l m : ℤ) → LeavesOnly a clause l → LeavesOnly a clause m → l ≡ m
@@ -62,19 +63,19 @@ neither_two a clause m k c n d o ne = ((λ all. n (All-contains (IsFalse a) clau
 
 pub sees_false : (a seen : List ℤ) (unit m : ℤ) → Sees a seen unit → IsFalse a m → Sees a (seen ++ m ∷ []) unit
 sees_false a seen unit m s f = record {
-    others = All-push (λ x. (x ≡ unit) ⊎ IsFalse a x) seen m s.others (inr f);
-    chosen = λ ne. let o = s.chosen ne in (Contains-append_left seen (m ∷ []) unit o.0, o.1, o.2);
-  }
+  others = All-push (λ x. (x ≡ unit) ⊎ IsFalse a x) seen m s.others (inr f);
+  chosen = λ ne. let o = s.chosen ne in (Contains-append_left seen (m ∷ []) unit o.0, o.1, o.2);
+}
 
 pub sees_open : (a seen : List ℤ) (unit m : ℤ) → Sees a seen unit → (IsFalse a m → ⊥) → (Contains a m → ⊥) → (unit ≡ pos 0) ⊎ (unit ≡ m) → All (λ x. x ≢ pos 0) seen → Sees a (seen ++ m ∷ []) m
 sees_open a seen unit m s n t (inl e) small = record {
-    others = All-push (λ x. (x ≡ m) ⊎ IsFalse a x) seen m (λ k d lt. ⊎_elim (λ (h : get_or seen k d ≡ unit). absurd (small k d lt (h ∙ e))) (λ (f : IsFalse a (get_or seen k d)). inr f) (s.others k d lt)) (inl refl);
-    chosen = λ ne. (Contains-push seen m, t, n);
-  }
+  others = All-push (λ x. (x ≡ m) ⊎ IsFalse a x) seen m (λ k d lt. ⊎_elim (λ (h : get_or seen k d ≡ unit). absurd (small k d lt (h ∙ e))) (λ (f : IsFalse a (get_or seen k d)). inr f) (s.others k d lt)) (inl refl);
+  chosen = λ ne. (Contains-push seen m, t, n);
+}
 sees_open a seen unit m s n t (inr e) small = record {
-    others = All-push (λ x. (x ≡ m) ⊎ IsFalse a x) seen m (subst (λ (u : ℤ). All (λ x. (x ≡ u) ⊎ IsFalse a x) seen) e s.others) (inl refl);
-    chosen = λ ne. (Contains-push seen m, t, n);
-  }
+  others = All-push (λ x. (x ≡ m) ⊎ IsFalse a x) seen m (subst (λ (u : ℤ). All (λ x. (x ≡ u) ⊎ IsFalse a x) seen) e s.others) (inl refl);
+  chosen = λ ne. (Contains-push seen m, t, n);
+}
 
 pub sees_all : (a clause : List ℤ) (unit : ℤ) → Sees a clause unit → unit ≢ pos 0 → LeavesOnly a clause unit
 sees_all a clause unit s ne = let o = s.chosen ne in record { inside = o.0; not_true = o.1; not_false = o.2; others = s.others }
@@ -105,8 +106,9 @@ neither_any db a (i ∷ hs) h n o (l, only, r) = o l only
 
 pub unit_step : (db : List (List ℤ)) (a : List ℤ) (hs : List ℕ) (h i : ℕ) (l : ℤ) → LeavesOnly a (clause_at db h) l → Same (Refutes db (a ++ l ∷ []) (i ∷ hs)) (Refutes db a (h ∷ i ∷ hs))
 unit_step db a hs h i l only = (
-    (λ r. (l, only, refutes_alike db (a ++ l ∷ []) (l ∷ a) (i ∷ hs) ((push_alike a l).1, (push_alike a l).0) r)),
-    (λ (m, o, r). let e = one_left a (clause_at db h) m l o only in refutes_alike db (l ∷ a) (a ++ l ∷ []) (i ∷ hs) (push_alike a l) (subst (λ (x : ℤ). Refutes db (x ∷ a) (i ∷ hs)) e r)))
+  (λ r. (l, only, refutes_alike db (a ++ l ∷ []) (l ∷ a) (i ∷ hs) ((push_alike a l).1, (push_alike a l).0) r)),
+  (λ (m, o, r). let e = one_left a (clause_at db h) m l o only in refutes_alike db (l ∷ a) (a ++ l ∷ []) (i ∷ hs) (push_alike a l) (subst (λ (x : ℤ). Refutes db (x ∷ a) (i ∷ hs)) e r)),
+)
 
 -- marks and what they say
 pub marked_false : (marks : List Bool) (a : List ℤ) (x m : ℤ) (r : Bool) → AreMarks marks a → x ≡ neg_ℤ m → r ≡ mark_at marks x → r ≡ true → IsFalse a m

@@ -31,7 +31,11 @@ pub fn is_marked(marks: &[bool], lit: i32) -> bool
     ensures { result ≡ mark_at marks.now lit }
 {
     let place = place_of(lit);
-    if place < marks.len() { marks[place] } else { false }
+    if place < marks.len() {
+        marks[place]
+    } else {
+        false
+    }
 }
 
 // Whether a literal's complement is assumed.
@@ -68,7 +72,11 @@ pub fn scan_clause(marks: &[bool], assumed: &[i32], clause: &[i32]) -> Scan
         }
         unit = *lit;
     }
-    if unit == 0 { Scan::Conflict } else { Scan::Unit(unit) }
+    if unit == 0 {
+        Scan::Conflict
+    } else {
+        Scan::Unit(unit)
+    }
 }
 
 /// Assumes one more literal.

@@ -1,6 +1,6 @@
 use mir.Val.{SFits}
 use Rattle.std.proofs.lemmas.Int.{to_z-of_z}
-use Rattle.std.proofs.Common.{rules, get_or, to_z, of_z, w32, ℤ, pos, List, subst, length, arith, take}
+use Rattle.std.proofs.Common.{rules, get_or, w32, ℤ, pos, subst, arith}
 use Rattle.std.proofs.lemmas.List.{take_all}
 use Rattle.std.proofs.lemmas.List.Elements.{All-more}
 use Rattle.cnf_store.specs.Clauses.{IsLiteral, AreLiterals}

@@ -1,4 +1,4 @@
-use Rattle.std.proofs.Common.{rules, ◌≡◌, ◌≢◌, ℤ, pos, get_or, true, subst, arith, ◌∙◌, to_z, of_z, w32}
+use Rattle.std.proofs.Common.{rules, ◌≡◌, ◌≢◌, ℤ, pos, get_or, true, subst, arith, ◌∙◌, w32}
 use mir.Val.{SFits}
 use Rattle.std.proofs.lemmas.Int.{to_z-of_z}
 use Rattle.log_check.specs.Marks.{mark_at}
@@ -11,6 +11,6 @@ loop-i-preserved c =
     let f : SFits w32 x = search rules in
     record {
       held = unmark_next c.loop-i.marks c.unmark_one.new.marks c.args.assumed.now c.loop-i.i (omega arith) c.loop-i.invariant.held
-        (subst (λ (y : ℤ). (l : ℤ) → mark_at c.unmark_one.new.marks l ≡ true → (l ≢ y) × (mark_at c.loop-i.marks l ≡ true)) (to_z-of_z w32 x f) c.unmark_one.ensures.others);
+          (subst (λ (y : ℤ). (l : ℤ) → mark_at c.unmark_one.new.marks l ≡ true → (l ≢ y) × (mark_at c.loop-i.marks l ≡ true)) (to_z-of_z w32 x f) c.unmark_one.ensures.others);
       size = c.unmark_one.ensures.size ∙ c.loop-i.invariant.size;
     }

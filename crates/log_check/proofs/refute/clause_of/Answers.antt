@@ -1,7 +1,6 @@
-use Rattle.std.proofs.Common.{arith, sym, subst, ◌∙◌, ◌-◌, [], length}
+use Rattle.std.proofs.Common.{arith, sym, subst, ◌∙◌, ◌-◌, []}
 use Rattle.cnf_store.specs.Clauses.{AreLiterals}
-use Rattle.log_check.specs.FirstBad.{clauses_before}
-use Rattle.log_check.proofs.Following.{given_clause, line_clause, few_literals, length_before}
+use Rattle.log_check.proofs.Following.{line_clause, length_before}
 use Rattle.log_check.proofs.refute.clause_of.Goals as goal
 
 pub returns-else-number-given-clause-value : goal.returns-else-number-given-clause-value

@@ -1,4 +1,4 @@
-use Rattle.std.proofs.Common.{◌≡◌, Bool, List, ℕ, ℤ, subst, sym, ◌∙◌, arith}
+use Rattle.std.proofs.Common.{Bool, ℕ, subst, sym, ◌∙◌, arith}
 use Rattle.cnf_store.specs.Clauses.{AreClauses}
 use Rattle.sat_log.specs.Derivations.{Follows, line_at}
 use Rattle.log_check.specs.FirstBad.{Decides, FollowTo, clauses_before}
@@ -7,12 +7,12 @@ use Rattle.log_check.proofs.whole_log.count_following.Goals as goal
 
 pub loop-i-init : goal.loop-i-init
 loop-i-init c = record {
-    ways = begin_ways c.args.formula.now c.args.log.now;
-    within = subst (AreClauses c.args.formula.now.vars) (sym (none_before c.args.formula.now c.args.log.now)) c.len-given.ensures.formula.within;
-    marks = c.requires.marks;
-    assumed = c.requires.assumed;
-    size = c.requires.size;
-  }
+  ways = begin_ways c.args.formula.now c.args.log.now;
+  within = subst (AreClauses c.args.formula.now.vars) (sym (none_before c.args.formula.now c.args.log.now)) c.len-given.ensures.formula.within;
+  marks = c.requires.marks;
+  assumed = c.requires.assumed;
+  size = c.requires.size;
+}
 
 pub returns-then-not-branch : goal.returns-then-not-branch
 returns-then-not-branch c =

@@ -1,4 +1,4 @@
-use Rattle.std.proofs.Common.{◌≡◌, ◌+◌, ◌*◌, ◌≤◌, ℕ, [], length, drop}
+use Rattle.std.proofs.Common.{◌≡◌, ◌+◌, ◌*◌, ℕ, [], length, drop}
 use Rattle.cnf_store.specs.Clauses.{AreClauses}
 use Rattle.log_check.specs.Marks.{AreMarks}
 use Rattle.log_check.specs.FirstBad.{FollowTo, clauses_before}
