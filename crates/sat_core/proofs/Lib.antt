@@ -7,3 +7,4 @@ pub mod Seeing
 pub mod Upkeep
 pub mod Concluding
 pub mod Signing
+pub mod Answering

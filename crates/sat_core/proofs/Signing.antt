@@ -1,9 +1,16 @@
-use Rattle.std.proofs.Common.{◌≡◌, ◌≢◌, ◌-◌, ◌/◌, ◌%◌, ℕ, zero, suc, ℤ, pos, negsuc, List, [], ◌∷◌, map, get_or, arith, sym, ◌∙◌, ap, subst, refl, ◌⊎◌, inl, inr, ⊎_elim, Bool, true, false, eq-eqb, ne_eqb}
-use Rattle.std.proofs.lemmas.Bool.{cases_eq}
-use Rattle.std.specs.List.{All, Contains}
-use lib.IntN.{neg_ℤ}
-use Rattle.sat_core.specs.Derivations.{neg, clause_at, Refutes, MakesTrue}
-use Rattle.sat_core.specs.Signed.{MakesTrueZ, LeavesOnlyZ, RefutesZ, signed, lit_of}
+-- From codes to signed literals: clauses, derivations and rows.
+use Rattle.std.proofs.Common.{◌≡◌, ◌≢◌, ◌≤◌, ◌<◌, ◌*◌, ◌-◌, ◌/◌, ◌%◌, ℕ, zero, suc, ℤ, pos, negsuc, neg_ℤ, List, [], ◌∷◌, ◌++◌, map, get_or, length, arith, sym, ◌∙◌, ap, ap₂, subst, refl, ◌⊎◌, inl, inr, ⊎_elim, Bool, true, false, not, eq-eqb, ne_eqb}
+use Rattle.std.specs.Prelude.{unsigned_abs}
+use Rattle.std.proofs.lemmas.Bool.{cases_eq, and_from}
+use Rattle.std.proofs.lemmas.List.{map-append, length-map}
+use Rattle.std.specs.List.{All, Any, Contains}
+use Rattle.cnf_store.specs.Clauses.{literal_true, clause_true, satisfies, IsLiteral, Formula}
+use Rattle.sat_log.specs.Derivations.{Line as SignedLine, LeavesOnly as SignedLeavesOnly, Refutes as SignedRefutes, Follows as SignedFollows, AllFollow as SignedAllFollow, EndsEmpty, IsAccepted}
+use Rattle.sat_log.proofs.Soundness.{true_some, refuted}
+use Rattle.sat_core.specs.declared.logs.Line.{Line}
+use Rattle.sat_core.specs.Derivations.{neg, clause_at, Refutes, Follows, MakesTrue, Satisfies}
+use Rattle.sat_core.specs.Logged.{AllFollow, clauses_of, IsRefuted}
+use Rattle.sat_core.specs.Signed.{signed, lit_of, signed_clauses, signed_line}
 
 parity : (l : ℕ) → (l % 2 ≡ 0) ⊎ (l % 2 ≡ 1)
 parity l = ⊎_elim (λ (e : l % 2 ≡ 0). inl e) (λ (n : l % 2 ≢ 0). inr (omega arith)) (cases_eq (l % 2) 0)
@@ -37,6 +44,13 @@ lit_injective l m e = ⊎_elim
     (λ (b : m % 2 ≡ 1). let h = negsuc_injective (l / 2) (m / 2) (sym (odd_is l a) ∙ e ∙ odd_is m b) in omega arith) (parity m))
     (parity l)
 
+-- a code below twice the variables is of one of them
+pub lit_within : (vars l : ℕ) → l < 2 * vars → IsLiteral vars (lit_of l)
+lit_within vars l lt = ⊎_elim
+    (λ (e : l % 2 ≡ 0). subst (IsLiteral vars) (sym (even_is l e)) (omega arith, omega arith))
+    (λ (e : l % 2 ≡ 1). subst (IsLiteral vars) (sym (odd_is l e)) (omega arith, omega arith))
+    (parity l)
+
 contains_map : (xs : List ℕ) (l : ℕ) → Contains xs l → Contains (map lit_of xs) (lit_of l)
 contains_map [] l (k, lt, e) = absurd (omega arith)
 contains_map (x ∷ xs) l (zero, lt, e) = (0, omega arith, ap lit_of e)
@@ -47,17 +61,21 @@ contains_back [] l (k, lt, e) = absurd (omega arith)
 contains_back (x ∷ xs) l (zero, lt, e) = (0, omega arith, lit_injective x l e)
 contains_back (x ∷ xs) l (suc k, lt, e) = let h = contains_back xs l (k, omega arith, e) in (suc h.0, omega (arith, h.1), h.2)
 
-clause_map : (db : List (List ℕ)) (n : ℕ) → get_or (map (map lit_of) db) n [] ≡ map lit_of (get_or db n [])
+clause_map : (db : List (List ℕ)) (n : ℕ) → get_or (signed_clauses db) n [] ≡ map lit_of (get_or db n [])
 clause_map [] n = refl
 clause_map (c ∷ db) zero = refl
 clause_map (c ∷ db) (suc n) = clause_map db n
 
-all_map : (P : ℕ → Type 0) (Q : ℤ → Type 0) (xs : List ℕ) → ((l : ℕ) → P l → Q (lit_of l)) → All P xs → All Q (map lit_of xs)
+pub all_map : (P : ℕ → Type 0) (Q : ℤ → Type 0) (xs : List ℕ) → ((l : ℕ) → P l → Q (lit_of l)) → All P xs → All Q (map lit_of xs)
 all_map P Q [] f all k d lt = absurd (omega arith)
 all_map P Q (x ∷ xs) f all zero d lt = f x (all 0 0 (omega arith))
 all_map P Q (x ∷ xs) f all (suc k) d lt = all_map P Q xs f (λ j e l. all (suc j) e (omega arith)) k d (omega arith)
 
-pub refutes_signed : (db : List (List ℕ)) (assumed hints : List ℕ) → Refutes db assumed hints → RefutesZ (map (map lit_of) db) (map lit_of assumed) hints
+pub map_neg : (xs : List ℕ) → map lit_of (map neg xs) ≡ map neg_ℤ (map lit_of xs)
+map_neg [] = refl
+map_neg (x ∷ xs) = ap₂ (λ (y : ℤ) (ys : List ℤ). y ∷ ys) (sym (neg_lit x)) (map_neg xs)
+
+refutes_signed : (db : List (List ℕ)) (assumed hints : List ℕ) → Refutes db assumed hints → SignedRefutes (signed_clauses db) (map lit_of assumed) hints
 refutes_signed db assumed [] r = r
 refutes_signed db assumed (h ∷ []) r =
     subst (λ (c : List ℤ). All (λ m. Contains (map lit_of assumed) (neg_ℤ m)) c) (sym (clause_map db (h - 1)))
@@ -65,7 +83,7 @@ refutes_signed db assumed (h ∷ []) r =
     (λ l c. subst (Contains (map lit_of assumed)) (sym (neg_lit l)) (contains_map assumed (neg l) c)) r)
 refutes_signed db assumed (h ∷ i ∷ hs) (l, only, r) = (
   lit_of l,
-  subst (λ (c : List ℤ). LeavesOnlyZ (map lit_of assumed) c (lit_of l)) (sym (clause_map db (h - 1))) (record {
+  subst (λ (c : List ℤ). SignedLeavesOnly (map lit_of assumed) c (lit_of l)) (sym (clause_map db (h - 1))) (record {
     inside = contains_map (clause_at db h) l only.inside;
     not_true = λ c. only.not_true (contains_back assumed l c);
     not_false = λ c. only.not_false (contains_back assumed (neg l) (subst (Contains (map lit_of assumed)) (neg_lit l) c));
@@ -75,13 +93,57 @@ refutes_signed db assumed (h ∷ i ∷ hs) (l, only, r) = (
   refutes_signed db (l ∷ assumed) (i ∷ hs) r,
 )
 
--- a row makes a code true where it makes its literal true
-pub true_signed : (row : List Bool) (l : ℕ) → MakesTrue row l → MakesTrueZ row (lit_of l)
-true_signed row l t = ⊎_elim
-    (λ (e : l % 2 ≡ 0). subst (MakesTrueZ row) (sym (even_is l e)) (t ∙ eq-eqb (l % 2) 0 e))
-    (λ (e : l % 2 ≡ 1). subst (MakesTrueZ row) (sym (odd_is l e)) (t ∙ ne_eqb (l % 2) 0 (λ z. omega arith))) (parity l)
+follows_signed : (vars : ℕ) (db : List (List ℕ)) (l : Line) → Follows vars db l.literals.items l.hints.items → SignedFollows vars (signed_clauses db) (signed_line l)
+follows_signed vars db l f = record {
+    within = all_map (λ c. c < 2 * vars) (IsLiteral vars) l.literals.items (lit_within vars) f.within;
+    no_complement = all_map (λ c. Contains l.literals.items (neg c) → ⊥) (λ m. Contains (map lit_of l.literals.items) (neg_ℤ m) → ⊥) l.literals.items
+        (λ c n h. n (contains_back l.literals.items (neg c) (subst (Contains (map lit_of l.literals.items)) (neg_lit c) h))) f.no_complement;
+    earlier = subst (λ (n : ℕ). All (λ h. (0 < h) × (h ≤ n)) l.hints.items) (sym (length-map db (λ (c : List ℕ). map lit_of c))) f.earlier;
+    refutes = subst (λ (a : List ℤ). SignedRefutes (signed_clauses db) a l.hints.items) (map_neg l.literals.items) (refutes_signed db (map neg l.literals.items) l.hints.items f.refutes);
+  }
 
-pub true_back : (row : List Bool) (l : ℕ) → MakesTrueZ row (lit_of l) → MakesTrue row l
-true_back row l t = ⊎_elim
-    (λ (e : l % 2 ≡ 0). let z : get_or row (l / 2) false ≡ true = subst (MakesTrueZ row) (even_is l e) t in z ∙ sym (eq-eqb (l % 2) 0 e))
-    (λ (e : l % 2 ≡ 1). let z : get_or row (l / 2) false ≡ false = subst (MakesTrueZ row) (odd_is l e) t in z ∙ sym (ne_eqb (l % 2) 0 (λ z. omega arith))) (parity l)
+all_follow_signed : (vars : ℕ) (db : List (List ℕ)) (ls : List Line) → AllFollow vars db ls → SignedAllFollow vars (signed_clauses db) (map signed_line ls)
+all_follow_signed vars db [] all = tt
+all_follow_signed vars db (l ∷ ls) all = (
+  follows_signed vars db l all.0,
+  subst (λ (cs : List (List ℤ)). SignedAllFollow vars cs (map signed_line ls)) (map-append (λ (c : List ℕ). map lit_of c) db (l.literals.items ∷ [])) (all_follow_signed vars (db ++ l.literals.items ∷ []) ls all.1),
+)
+
+ends_signed : (ls : List Line) → get_or (clauses_of ls) (length (clauses_of ls) - 1) (0 ∷ []) ≡ [] → EndsEmpty (map signed_line ls)
+ends_signed [] e = absurd (let z : 1 ≡ 0 = ap (λ (xs : List ℕ). length xs) e in omega arith)
+ends_signed (l ∷ []) e = ap (map lit_of) e
+ends_signed (l ∷ m ∷ ls) e =
+    let cs : List (List ℕ) = clauses_of (m ∷ ls) in
+    let k : length (l.literals.items ∷ cs) - 1 ≡ suc (length cs - 1) = omega arith in
+    ends_signed (m ∷ ls) (subst (λ (n : ℕ). get_or (l.literals.items ∷ cs) n (0 ∷ []) ≡ []) k e)
+
+pub accepted_signed : (formula : Formula) (db : List (List ℕ)) (ls : List Line) (log : List SignedLine) → signed_clauses db ≡ formula.clauses → IsRefuted formula.vars db ls → log ≡ map signed_line ls → IsAccepted formula log
+accepted_signed formula db ls log e r f = subst (IsAccepted formula) (sym f) (record {
+    follow = subst (λ (cs : List (List ℤ)). SignedAllFollow formula.vars cs (map signed_line ls)) e (all_follow_signed formula.vars db ls r.follow);
+    empty = ends_signed ls r.last;
+  })
+
+-- lines of a log that follows have a text
+pub lines_small : (vars : ℕ) (db : List (List ℕ)) (ls : List Line) → vars ≤ 2147483647 → AllFollow vars db ls → All (λ (l : Line). All (λ c. c < 4294967294) l.literals.items) ls
+lines_small vars db [] few all k d lt = absurd (omega arith)
+lines_small vars db (l ∷ ls) few all zero d lt = λ j e h. let w = all.0.within j e h in omega arith
+lines_small vars db (l ∷ ls) few all (suc k) d lt = lines_small vars (db ++ l.literals.items ∷ []) ls few all.1 k d (omega arith)
+
+pub lines_hinted : (vars : ℕ) (db : List (List ℕ)) (ls : List Line) → AllFollow vars db ls → All (λ (l : Line). All (λ h. 0 < h) l.hints.items) ls
+lines_hinted vars db [] all k d lt = absurd (omega arith)
+lines_hinted vars db (l ∷ ls) all zero d lt = λ j e h. (all.0.earlier j e h).0
+lines_hinted vars db (l ∷ ls) all (suc k) d lt = lines_hinted vars (db ++ l.literals.items ∷ []) ls all.1 k d (omega arith)
+
+-- a row makes a code true where it makes its literal true
+true_signed : (row : List Bool) (l : ℕ) → MakesTrue row l → literal_true row (lit_of l) ≡ true
+true_signed row l t = ⊎_elim
+    (λ (e : l % 2 ≡ 0). ap (literal_true row) (even_is l e) ∙ t ∙ eq-eqb (l % 2) 0 e)
+    (λ (e : l % 2 ≡ 1). ap (literal_true row) (odd_is l e) ∙ ap not (t ∙ ne_eqb (l % 2) 0 (λ z. omega arith))) (parity l)
+
+pub satisfies_signed : (row : List Bool) (db : List (List ℕ)) → Satisfies row db → satisfies row (signed_clauses db) ≡ true
+satisfies_signed row [] sat = refl
+satisfies_signed row (c ∷ db) sat =
+    let (k, l, lt, e, t) = sat 0 [] (omega arith) in
+    and_from (clause_true row (map lit_of c)) (satisfies row (signed_clauses db))
+    (true_some row (map lit_of c) (lit_of l) (contains_map c l (k, lt, e)) (true_signed row l t))
+    (satisfies_signed row db (λ j d h. sat (suc j) d (omega arith)))

@@ -6,3 +6,4 @@ pub mod Looking
 pub mod Solving
 pub mod Watching
 pub mod Signed
+pub mod Answers

@@ -2,8 +2,8 @@
 use Rattle.std.specs.Prelude.{◌≡◌, ◌<◌, ℕ, Bool, List, ◌++◌, length}
 use Rattle.std.specs.List.{All, Any}
 use Rattle.sat_core.specs.declared.solving.Solver.{Solver}
-use Rattle.sat_core.specs.declared.solving.Answer.{Answer}
-use Rattle.sat_core.specs.declared.solving.Answer.TheVariants.{Sat, Unsat}
+use Rattle.sat_core.specs.declared.solving.Outcome.{Outcome}
+use Rattle.sat_core.specs.declared.solving.Outcome.TheVariants.{Sat, Unsat}
 use Rattle.sat_core.specs.declared.solving.Gone.{Gone}
 use Rattle.sat_core.specs.declared.solving.Gone.TheVariants.{On, Refuted, Full}
 use Rattle.sat_core.specs.Derivations.{AreWithin, Satisfies}
@@ -27,6 +27,6 @@ HasGone vars formula old new On = Keeps vars formula new × (rank vars old.trail
 HasGone vars formula old new Refuted = IsRefuted vars formula new.log.items
 HasGone vars formula old new Full = Standing new.trail.lits.items formula × (length new.trail.at.items ≡ vars)
 
-abbrev pub IsAnswer : ℕ → List (List ℕ) → Answer → Type 0
-IsAnswer vars formula (Sat row) = (length row.items ≡ vars) × Satisfies row.items formula
-IsAnswer vars formula (Unsat log) = IsRefuted vars formula log.items × ((row : List Bool) → Satisfies row formula → ⊥)
+abbrev pub IsOutcome : ℕ → List (List ℕ) → Outcome → Type 0
+IsOutcome vars formula (Sat row) = (length row.items ≡ vars) × Satisfies row.items formula
+IsOutcome vars formula (Unsat log) = IsRefuted vars formula log.items × ((row : List Bool) → Satisfies row formula → ⊥)

@@ -1,12 +1,22 @@
-//! Literals of the edge: signed numbers that aren't 0.
+//! The edge between literals as signed numbers, as formulas and logs have them, and their codes, as the solver has them.
 
-ghost use Rattle.std.specs.Prelude.{◌≡◌, ◌≢◌, ◌≤◌, ◌<◌, ◌-◌, ◌*◌, ◌^◌, pos, ◌≤ℤ◌, ◌<ℤ◌, ℤ, neg_ℤ};
-ghost use Rattle.sat_core.specs.Signed.{lit_of};
+ghost use Rattle.std.specs.Prelude.{◌≡◌, ◌≢◌, ◌≤◌, ◌<◌, ◌-◌, ◌*◌, ◌^◌, pos, ◌≤ℤ◌, ◌<ℤ◌, ℕ, ℤ, neg_ℤ, map, length, slice_index_or, Bool, false, IfOk, unsigned_abs};
+ghost use Rattle.std.specs.List.{All};
+ghost use Rattle.cnf_store.specs.Clauses.{IsLiteral, AreLiterals};
+ghost use Rattle.sat_core.specs.Derivations.{AreWithin};
+ghost use Rattle.sat_core.specs.Signed.{lit_of, signed_clauses, signed_line};
 
-/// The code of a literal.
-pub fn code_of(lit: i32) -> u32
-    requires { lit ≢ pos 0 }
-    ensures { lit_of result ≡ lit }
+use crate::logs::Line;
+use bit_rows::BitRow;
+use cnf_store::{Arena, Cnf};
+use sat_log::Log;
+use std::alloc::{AllocError, Global};
+
+// The code of a literal.
+fn code_of(lit: i32) -> u32
+    requires { (0 < unsigned_abs lit) × (unsigned_abs lit ≤ 2147483647) }
+    ensures value { lit_of result ≡ lit }
+    ensures within { result < 2 * unsigned_abs lit }
 {
     if lit > 0 {
         2 * (lit.unsigned_abs() - 1)
@@ -15,14 +25,85 @@ pub fn code_of(lit: i32) -> u32
     }
 }
 
-/// The literal of a code.
-pub fn literal_of(code: u32) -> i32
+// The literal of a code.
+fn literal_of(code: u32) -> i32
     requires { code < 2 ^ 32 - 2 }
-    ensures { result ≡ lit_of code }
+    ensures value { result ≡ lit_of code }
+    ensures literal { IsLiteral 2147483647 result }
 {
     if code % 2 == 0 {
         (code / 2 + 1) as i32
     } else {
         -((code / 2 + 1) as i32)
     }
+}
+
+// The codes of a clause.
+fn push_codes(clause: &[i32], vars: u32, codes: &mut Vec<u32>) -> Result<(), AllocError>
+    requires few { vars ≤ 2147483647 }
+    requires literals { AreLiterals vars clause.now }
+    ensures value { IfOk result (λ x. map lit_of codes.new.items ≡ clause.now) }
+    ensures within { IfOk result (λ x. All (λ l. l < 2 * vars) codes.new.items) }
+{
+    codes.clear();
+    for lit in clause {
+        codes.push(code_of(*lit))?;
+    }
+    Ok(())
+}
+
+/// A formula's clauses by codes.
+pub fn codes_of(alloc: Global, cnf: &Cnf) -> Result<Arena<u32>, AllocError>
+    ensures value { IfOk result (λ db. signed_clauses db ≡ cnf.now.clauses) }
+    ensures within { IfOk result (λ db. AreWithin cnf.now.vars db) }
+{
+    let vars = cnf.vars();
+    let mut clauses = Arena::new(alloc);
+    let mut codes = Vec::new(alloc);
+    for i in 0..cnf.len() {
+        push_codes(cnf.clause(i + 1), vars, &mut codes)?;
+        clauses.add(&codes)?;
+    }
+    Ok(clauses)
+}
+
+// The literals of codes.
+fn push_literals(codes: &[u32], literals: &mut Vec<i32>) -> Result<(), AllocError>
+    requires { All (λ l. l < 4294967294) codes.now }
+    ensures value { IfOk result (λ x. literals.new.items ≡ map lit_of codes.now) }
+    ensures literals { IfOk result (λ x. AreLiterals 2147483647 literals.new.items) }
+{
+    literals.clear();
+    for code in codes {
+        literals.push(literal_of(*code))?;
+    }
+    Ok(())
+}
+
+/// The log of lines by codes.
+pub fn log_of(alloc: Global, lines: &[Line]) -> Result<Log, AllocError>
+    requires literals { All (λ l. All (λ c. c < 4294967294) l.literals.items) lines.now }
+    requires hints { All (λ l. All (λ h. 0 < h) l.hints.items) lines.now }
+    ensures { IfOk result (λ log. log ≡ map signed_line lines.now) }
+{
+    let mut log = Log::new(alloc);
+    let mut literals = Vec::new(alloc);
+    for line in lines {
+        push_literals(&line.literals, &mut literals)?;
+        log.add(&literals, &line.hints)?;
+    }
+    Ok(log)
+}
+
+/// A row of bits.
+pub fn bits_of(alloc: Global, bits: &[bool]) -> Result<BitRow, AllocError>
+    requires { length bits.now < 2 ^ 31 }
+    ensures { IfOk result (λ row. row ≡ bits.now) }
+{
+    let len = bits.len() as u32;
+    let mut row = BitRow::with_len(alloc, len)?;
+    for i in 0..len {
+        row.set(i, bits[i as usize]);
+    }
+    Ok(row)
 }

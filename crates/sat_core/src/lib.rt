@@ -7,6 +7,7 @@
 #![tactic(auto)]
 
 mod analysis;
+mod answer;
 mod edge;
 mod logs;
 mod looking;
@@ -15,4 +16,4 @@ mod solving;
 mod trail;
 mod watching;
 
-pub use solving::solve;
+pub use answer::{Answer, solve};

@@ -4,7 +4,7 @@ ghost use Rattle.std.specs.Prelude.{◌≡◌, ◌≢◌, ◌≤◌, ◌<◌, �
 ghost use Rattle.std.specs.List.{All, Any, Contains};
 ghost use Rattle.sat_core.specs.Derivations.{neg, clause_at, AreWithin, Follows, MakesTrue};
 ghost use Rattle.sat_core.specs.Trail.{IsPlaced, StandsBelow, IsWrong, IsUnit, AreStarts, IsLearned};
-ghost use Rattle.sat_core.specs.Solving.{Keeps, HasGone, IsAnswer, Standing};
+ghost use Rattle.sat_core.specs.Solving.{Keeps, HasGone, IsOutcome, Standing};
 ghost use Rattle.sat_core.specs.Rank.{rank};
 
 use cnf_store::Arena;
@@ -24,9 +24,9 @@ pub struct Solver {
     pub trail: Trail,
 }
 
-/// The answer.
+/// What the search comes to, over codes.
 #[derive(Drop)]
-pub enum Answer {
+pub enum Outcome {
     Sat(Vec<bool>),
     Unsat(Vec<Line>),
 }
@@ -376,10 +376,10 @@ fn is_set(lits: &[u32], at: &[usize], v: usize) -> bool
 }
 
 /// Whether an assignment satisfies all clauses, with one that does or with a derivation of the empty clause.
-pub fn solve(alloc: Global, vars: usize, formula: &Arena<u32>) -> Result<Answer, AllocError>
+pub fn search(alloc: Global, vars: usize, formula: &Arena<u32>) -> Result<Outcome, AllocError>
     requires few { vars < 2 ^ 31 }
     requires within { AreWithin vars formula.now }
-    ensures { IfOk result (IsAnswer vars formula.now) }
+    ensures { IfOk result (IsOutcome vars formula.now) }
 {
     let mut s = Solver {
         db: copied(alloc, formula)?,
@@ -404,8 +404,8 @@ pub fn solve(alloc: Global, vars: usize, formula: &Arena<u32>) -> Result<Answer,
             let known = s.db.len();
             match step(alloc, vars, formula, &mut s, &mut w, &mut order, from)? {
                 Gone::On => {}
-                Gone::Refuted => return Ok(Answer::Unsat(s.log)),
-                Gone::Full => return Ok(Answer::Sat(row_of(alloc, &s.trail.lits, &s.trail.at)?)),
+                Gone::Refuted => return Ok(Outcome::Unsat(s.log)),
+                Gone::Full => return Ok(Outcome::Sat(row_of(alloc, &s.trail.lits, &s.trail.at)?)),
             }
             if s.db.len() > known {
                 conflicts = conflicts.saturating_add(1);

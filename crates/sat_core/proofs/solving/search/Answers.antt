@@ -7,7 +7,7 @@ use Rattle.sat_core.specs.Rank.{rank}
 use Rattle.sat_core.proofs.Ranks.{rank_below}
 use Rattle.sat_core.proofs.Deriving.{accepted_none}
 use Rattle.sat_core.proofs.Concluding.{standing_satisfies}
-use Rattle.sat_core.proofs.solving.solve.Goals as goal
+use Rattle.sat_core.proofs.solving.search.Goals as goal
 
 falls : (k n a b : ℕ) → a < b → b < n → k * n + (n - b) < k * n + (n - a)
 falls k n a b h l = omega arith

@@ -1,7 +1,7 @@
 use Rattle.std.proofs.Common.{◌-◌, ◌+◌, ◌*◌, ◌^◌}
 use Rattle.sat_core.specs.Solving.{Keeps}
 use Rattle.sat_core.specs.Rank.{rank}
-use Rattle.sat_core.proofs.solving.solve.Given as goal
+use Rattle.sat_core.proofs.solving.search.Given as goal
 
 abbrev pub invariant-steps : goal.invariant-steps
 invariant-steps l = Keeps l.vars l.formula l.s
