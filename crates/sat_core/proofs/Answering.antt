@@ -1,12 +1,10 @@
 -- From the search's outcome over codes to the answer over signed literals.
-use Rattle.std.proofs.Common.{◌≡◌, ◌≤◌, ◌<◌, ℕ, ℤ, List, length, map, arith, sym, ◌∙◌, ap, subst, Bool, true, false}
+use Rattle.std.proofs.Common.{◌≡◌, ◌≤◌, ◌<◌, ℕ, List, length, map, sym, ◌∙◌, ap, subst, Bool, true, false}
 use Rattle.std.specs.List.{All}
 use Rattle.cnf_store.specs.Clauses.{Formula, satisfies}
 use Rattle.sat_log.specs.Derivations.{Line as SignedLine, IsAccepted}
 use Rattle.sat_log.proofs.Soundness.{refuted}
 use Rattle.sat_core.specs.declared.logs.Line.{Line}
-use Rattle.sat_core.specs.declared.solving.Outcome.{Outcome}
-use Rattle.sat_core.specs.declared.solving.Outcome.TheVariants.{Sat, Unsat}
 use Rattle.sat_core.specs.Derivations.{Satisfies}
 use Rattle.sat_core.specs.Logged.{IsRefuted}
 use Rattle.sat_core.specs.Signed.{signed_clauses, signed_line}

@@ -1,12 +1,11 @@
 -- From codes to signed literals: clauses, derivations and rows.
-use Rattle.std.proofs.Common.{◌≡◌, ◌≢◌, ◌≤◌, ◌<◌, ◌*◌, ◌-◌, ◌/◌, ◌%◌, ℕ, zero, suc, ℤ, pos, negsuc, neg_ℤ, List, [], ◌∷◌, ◌++◌, map, get_or, length, arith, sym, ◌∙◌, ap, ap₂, subst, refl, ◌⊎◌, inl, inr, ⊎_elim, Bool, true, false, not, eq-eqb, ne_eqb}
-use Rattle.std.specs.Prelude.{unsigned_abs}
+use Rattle.std.proofs.Common.{◌≡◌, ◌≢◌, ◌≤◌, ◌<◌, ◌*◌, ◌-◌, ◌/◌, ◌%◌, ℕ, zero, suc, ℤ, pos, negsuc, neg_ℤ, List, [], ◌∷◌, ◌++◌, map, get_or, length, arith, sym, ◌∙◌, ap, ap₂, subst, refl, ◌⊎◌, inl, inr, ⊎_elim, Bool, true, not, eq-eqb, ne_eqb}
 use Rattle.std.proofs.lemmas.Bool.{cases_eq, and_from}
 use Rattle.std.proofs.lemmas.List.{map-append, length-map}
-use Rattle.std.specs.List.{All, Any, Contains}
+use Rattle.std.specs.List.{All, Contains}
 use Rattle.cnf_store.specs.Clauses.{literal_true, clause_true, satisfies, IsLiteral, Formula}
 use Rattle.sat_log.specs.Derivations.{Line as SignedLine, LeavesOnly as SignedLeavesOnly, Refutes as SignedRefutes, Follows as SignedFollows, AllFollow as SignedAllFollow, EndsEmpty, IsAccepted}
-use Rattle.sat_log.proofs.Soundness.{true_some, refuted}
+use Rattle.sat_log.proofs.Soundness.{true_some}
 use Rattle.sat_core.specs.declared.logs.Line.{Line}
 use Rattle.sat_core.specs.Derivations.{neg, clause_at, Refutes, Follows, MakesTrue, Satisfies}
 use Rattle.sat_core.specs.Logged.{AllFollow, clauses_of, IsRefuted}
@@ -95,12 +94,12 @@ refutes_signed db assumed (h ∷ i ∷ hs) (l, only, r) = (
 
 follows_signed : (vars : ℕ) (db : List (List ℕ)) (l : Line) → Follows vars db l.literals.items l.hints.items → SignedFollows vars (signed_clauses db) (signed_line l)
 follows_signed vars db l f = record {
-    within = all_map (λ c. c < 2 * vars) (IsLiteral vars) l.literals.items (lit_within vars) f.within;
-    no_complement = all_map (λ c. Contains l.literals.items (neg c) → ⊥) (λ m. Contains (map lit_of l.literals.items) (neg_ℤ m) → ⊥) l.literals.items
-        (λ c n h. n (contains_back l.literals.items (neg c) (subst (Contains (map lit_of l.literals.items)) (neg_lit c) h))) f.no_complement;
-    earlier = subst (λ (n : ℕ). All (λ h. (0 < h) × (h ≤ n)) l.hints.items) (sym (length-map db (λ (c : List ℕ). map lit_of c))) f.earlier;
-    refutes = subst (λ (a : List ℤ). SignedRefutes (signed_clauses db) a l.hints.items) (map_neg l.literals.items) (refutes_signed db (map neg l.literals.items) l.hints.items f.refutes);
-  }
+  within = all_map (λ c. c < 2 * vars) (IsLiteral vars) l.literals.items (lit_within vars) f.within;
+  no_complement = all_map (λ c. Contains l.literals.items (neg c) → ⊥) (λ m. Contains (map lit_of l.literals.items) (neg_ℤ m) → ⊥) l.literals.items
+      (λ c n h. n (contains_back l.literals.items (neg c) (subst (Contains (map lit_of l.literals.items)) (neg_lit c) h))) f.no_complement;
+  earlier = subst (λ (n : ℕ). All (λ h. (0 < h) × (h ≤ n)) l.hints.items) (sym (length-map db (λ (c : List ℕ). map lit_of c))) f.earlier;
+  refutes = subst (λ (a : List ℤ). SignedRefutes (signed_clauses db) a l.hints.items) (map_neg l.literals.items) (refutes_signed db (map neg l.literals.items) l.hints.items f.refutes);
+}
 
 all_follow_signed : (vars : ℕ) (db : List (List ℕ)) (ls : List Line) → AllFollow vars db ls → SignedAllFollow vars (signed_clauses db) (map signed_line ls)
 all_follow_signed vars db [] all = tt
@@ -119,9 +118,9 @@ ends_signed (l ∷ m ∷ ls) e =
 
 pub accepted_signed : (formula : Formula) (db : List (List ℕ)) (ls : List Line) (log : List SignedLine) → signed_clauses db ≡ formula.clauses → IsRefuted formula.vars db ls → log ≡ map signed_line ls → IsAccepted formula log
 accepted_signed formula db ls log e r f = subst (IsAccepted formula) (sym f) (record {
-    follow = subst (λ (cs : List (List ℤ)). SignedAllFollow formula.vars cs (map signed_line ls)) e (all_follow_signed formula.vars db ls r.follow);
-    empty = ends_signed ls r.last;
-  })
+  follow = subst (λ (cs : List (List ℤ)). SignedAllFollow formula.vars cs (map signed_line ls)) e (all_follow_signed formula.vars db ls r.follow);
+  empty = ends_signed ls r.last;
+})
 
 -- lines of a log that follows have a text
 pub lines_small : (vars : ℕ) (db : List (List ℕ)) (ls : List Line) → vars ≤ 2147483647 → AllFollow vars db ls → All (λ (l : Line). All (λ c. c < 4294967294) l.literals.items) ls

@@ -29,3 +29,36 @@ pub fn solve(alloc: Global, cnf: &Cnf) -> Result<Answer, AllocError>
         Outcome::Unsat(lines) => Ok(Answer::Unsat(log_of(alloc, &lines)?)),
     }
 }
+
+#[cfg(test)]
+mod tests {
+    use super::{Answer, solve};
+    use cnf_store::Cnf;
+    use std::alloc::{AllocError, Global};
+    use std::test::Fail;
+
+    // Whether some assignment satisfies.
+    fn is_sat(alloc: Global, cnf: &Cnf) -> Result<bool, AllocError> {
+        match solve(alloc, cnf)? {
+            Answer::Sat(_) => Ok(true),
+            Answer::Unsat(_) => Ok(false),
+        }
+    }
+
+    #[test]
+    fn a_clause_of_two_is_satisfied_and_opposite_units_are_not(
+        rt: HostRuntime,
+    ) -> Result<(), Fail> {
+        let mut units = Cnf::new(rt.alloc(), 1)?;
+        assert!(rt; is_sat(rt.alloc(), &units)?);
+        units.add(&[1])?;
+        units.add(&[-1])?;
+        assert!(rt; !is_sat(rt.alloc(), &units)?);
+        let mut pair = Cnf::new(rt.alloc(), 2)?;
+        pair.add(&[1, 2])?;
+        assert!(rt; is_sat(rt.alloc(), &pair)?);
+        pair.add(&[])?;
+        assert!(rt; !is_sat(rt.alloc(), &pair)?);
+        Ok(())
+    }
+}

@@ -7,13 +7,13 @@ ghost use Rattle.sat_core.specs.Trail.{IsPlaced, StandsBelow, IsWrong, IsUnit, A
 ghost use Rattle.sat_core.specs.Solving.{Keeps, HasGone, IsOutcome, Standing};
 ghost use Rattle.sat_core.specs.Rank.{rank};
 
-use cnf_store::Arena;
 use crate::analysis::{complement, learn, learn_nothing};
 use crate::logs::Line;
 use crate::looking::{Look, look_through};
 use crate::ordering::Order;
 use crate::trail::Trail;
 use crate::watching::{Watches, propagate, read_all};
+use cnf_store::Arena;
 use std::alloc::{AllocError, Global};
 
 /// What a solver has at hand.
@@ -324,7 +324,12 @@ fn step(
 }
 
 // Back to the first level.
-fn restart(vars: usize, formula: &Arena<u32>, s: &mut Solver, order: &mut Order) -> Result<(), AllocError>
+fn restart(
+    vars: usize,
+    formula: &Arena<u32>,
+    s: &mut Solver,
+    order: &mut Order,
+) -> Result<(), AllocError>
     requires { Keeps vars formula.now s.old }
     ensures { OnOk result (Keeps vars formula.now s.new) }
 {
@@ -415,32 +420,6 @@ pub fn search(alloc: Global, vars: usize, formula: &Arena<u32>) -> Result<Outcom
             from = s.trail.lits.len().saturating_sub(1);
         }
     }
-}
-
-// Whether all literals are within the variables.
-fn row_within(clause: &[u32], vars: usize) -> bool
-    requires { vars < 2 ^ 31 }
-    ensures { result ≡ true → All (λ l. l < 2 * vars) clause.now }
-{
-    for lit in clause {
-        if *lit as usize >= 2 * vars {
-            return false;
-        }
-    }
-    true
-}
-
-/// Whether all clauses are within the variables.
-pub fn all_within(cnf: &Arena<u32>, vars: usize) -> bool
-    requires { vars < 2 ^ 31 }
-    ensures { result ≡ true → AreWithin vars cnf.now }
-{
-    for i in 0..cnf.len() {
-        if !row_within(cnf.get(i), vars) {
-            return false;
-        }
-    }
-    true
 }
 
 // How many conflicts until the next restart.

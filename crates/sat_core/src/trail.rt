@@ -3,7 +3,6 @@
 ghost use Rattle.std.specs.Prelude.{MatchOption, IfSome, IfNone, if◌then◌else◌, ◌≡◌, ◌≢◌, ◌≤◌, ◌<◌, ◌+◌, ◌-◌, ◌*◌, ◌/◌, ◌%◌, ◌^◌, ◌++◌, ◌∷◌, [], ℕ, Bool, true, false, List, IfOk, OnOk, OnErr, length, slice_index, slice_index_or, slice_set, map, take, reverse, vec_len, vec_capacity, ◌⊎◌, ◌↔◌, IsTrue};
 ghost use Rattle.sat_core.specs.Trail.{IsPlaced, AreStarts, StandsBelow, IsLevelOf};
 
-use crate::solving::level_below;
 use std::alloc::{AllocError, Global};
 
 /// What is assigned, from the oldest on.
@@ -38,44 +37,6 @@ impl Trail {
             at,
             starts,
         })
-    }
-
-    /// A variable's value.
-    pub fn value(&self, var: usize) -> Option<bool>
-        requires { var < length self.now.at.items }
-        ensures { MatchOption result (slice_index self.now.at.items var ≡ 0) (λ b. StandsBelow self.now.lits.items (length self.now.lits.items) (if b then 2 * var else 2 * var + 1)) }
-    {
-        let place = self.at[var];
-        if place == 0 {
-            return None;
-        }
-        Some(self.lits[place - 1] % 2 == 0)
-    }
-
-    /// A variable's level: how many levels begin at or before its place.
-    pub fn level(&self, var: usize) -> Option<usize>
-        requires { var < length self.now.at.items }
-        ensures { MatchOption result (slice_index self.now.at.items var ≡ 0) (IsLevelOf self.now.starts.items (slice_index self.now.at.items var - 1)) }
-    {
-        let after = self.at[var];
-        if after == 0 {
-            return None;
-        }
-        Some(level_below(&self.starts, after))
-    }
-
-    /// The clause that implied a variable's value.
-    pub fn reason(&self, var: usize) -> Option<u64>
-        requires { var < length self.now.at.items }
-        ensures some { IfSome result (λ r. (0 < slice_index self.now.at.items var) × (0 < r) × (r ≡ slice_index self.now.reasons.items (slice_index self.now.at.items var - 1))) }
-        ensures none { IfNone result ((slice_index self.now.at.items var ≡ 0) ⊎ (slice_index self.now.reasons.items (slice_index self.now.at.items var - 1) ≡ 0)) }
-    {
-        let place = self.at[var];
-        if place == 0 {
-            return None;
-        }
-        let reason = self.reasons[place - 1];
-        if reason == 0 { None } else { Some(reason) }
     }
 
     /// Adds a literal that a clause implies.

@@ -9,10 +9,10 @@ ghost use Rattle.sat_core.specs.Looking.{IsWorth, IsFound};
 ghost use Rattle.sat_core.specs.Watching.{IsSought, HasSeen, Grows, HasSwept};
 ghost use Rattle.sat_core.specs.declared.watching.Sought.TheVariants.{Rest};
 
-use cnf_store::Arena;
 use crate::analysis::complement;
 use crate::looking::{Found, Worth, inspect, value_of};
 use crate::solving::{Solver, add_implied};
+use cnf_store::Arena;
 use std::alloc::{AllocError, Global};
 use std::mem;
 
