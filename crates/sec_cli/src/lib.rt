@@ -11,3 +11,6 @@ mod words;
 pub use command::{Report, run};
 pub use ending::{Ending, Side};
 pub use words::is_plain;
+
+#[cfg(test)]
+mod tests;
