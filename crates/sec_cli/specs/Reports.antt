@@ -36,24 +36,24 @@ refusal_text left right (ends.Equivalent signals classes) = codes ""
 abbrev pub IsTold : Option (List ℕ) → ℕ → List ℕ → Option (List ℕ) → ℕ → Type 0
 IsTold before faults text after now = (after ≡ appended before text) ⊎ (Rose faults now × IsCutShort before text after)
 
--- how the check of these two files ended, where the shelf tells its files
-abbrev pub Told : Bool → Option (List ℕ) → Option (List ℕ) → Ending → Type 0
-Told tells left right e = IsTrue tells → IsEnding left right e
+-- how the check of the files under these names ended, where the shelf tells its files
+abbrev pub Ended : Bool → (List ℕ → Option (List ℕ)) → List ℕ → List ℕ → Ending → Type 0
+Ended tells file left right e = IsTrue tells → IsEnding (file left) (file right) e
 
 -- the verdict's line was printed, and is true of the files
 abbrev pub IsEquivalent : (Ending → Type 0) → Option (List ℕ) → Option (List ℕ) → Type 0
-IsEquivalent Ended before after = (signals : ℕ) × (classes : ℕ) × Ended (ends.Equivalent signals classes) × (after ≡ appended before (equivalent_text signals classes))
+IsEquivalent HasEnded before after = (signals : ℕ) × (classes : ℕ) × HasEnded (ends.Equivalent signals classes) × (after ≡ appended before (equivalent_text signals classes))
 
 -- the verdict's line was cut short
 abbrev pub IsWriteFailure : (Ending → Type 0) → Option (List ℕ) → Option (List ℕ) → Type 0
-IsWriteFailure Ended before after = (signals : ℕ) × (classes : ℕ) × Ended (ends.Equivalent signals classes) × IsCutShort before (equivalent_text signals classes) after
+IsWriteFailure HasEnded before after = (signals : ℕ) × (classes : ℕ) × HasEnded (ends.Equivalent signals classes) × IsCutShort before (equivalent_text signals classes) after
 
 -- a refusal was told, and is true of the files
 abbrev pub IsRefusedAs : (Ending → Type 0) → List ℕ → List ℕ → Option (List ℕ) → ℕ → Option (List ℕ) → ℕ → Type 0
-IsRefusedAs Ended left right before faults after now = (e : Ending) × (refusal_status e ≡ 4) × Ended e × IsTold before faults (refusal_text left right e) after now
+IsRefusedAs HasEnded left right before faults after now = (e : Ending) × (refusal_status e ≡ 4) × HasEnded e × IsTold before faults (refusal_text left right e) after now
 
 -- a file could not be loaded: its name was added to those whose loads failed, and told; what stands before it in the order was accepted
 abbrev pub IsReadFailure : (Ending → Type 0) → List ℕ → List ℕ → Option (List (List ℕ)) → Option (List (List ℕ)) → Option (List ℕ) → ℕ → Option (List ℕ) → ℕ → Type 0
-IsReadFailure Ended left right names names_after before faults after now =
-    (side : Side) × Ended (ends.LoadFailed side) × (names_after ≡ appended names (name_of_side left right side ∷ []))
+IsReadFailure HasEnded left right names names_after before faults after now =
+    (side : Side) × HasEnded (ends.LoadFailed side) × (names_after ≡ appended names (name_of_side left right side ∷ []))
     × IsTold before faults (read_failed_text (name_of_side left right side)) after now

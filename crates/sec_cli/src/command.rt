@@ -1,10 +1,10 @@
 // One run: its words, the check, and what is written of it.
-ghost use Rattle.std.specs.Prelude.{◌≡◌, ◌≢◌, ◌≤◌, ℕ, List, [], ◌∷◌, map, string_bytes, IsTrue, MatchBool, Contains};
+ghost use Rattle.std.specs.Prelude.{◌≡◌, ◌≢◌, ◌≤◌, ℕ, List, [], ◌∷◌, MatchBool, Contains};
 ghost use Rattle.sec_base.specs.Faults.{Rose, appended, IsCutShort};
-ghost use Rattle.sec_cli.specs.Words.{are_plain, left_name, right_name};
+ghost use Rattle.sec_cli.specs.Words.{are_plain, texts, left_name, right_name};
 ghost use Rattle.sec_cli.specs.Texts.{equivalent_text, write_failed_text, memory_text, usage_text};
 ghost use Rattle.sec_cli.specs.Endings.{IsEnding, failed_names};
-ghost use Rattle.sec_cli.specs.Reports.{IsTold, Told, IsEquivalent, IsWriteFailure, IsRefusedAs, IsReadFailure, name_of_side, refusal_status, refusal_text};
+ghost use Rattle.sec_cli.specs.Reports.{IsTold, Ended, IsEquivalent, IsWriteFailure, IsRefusedAs, IsReadFailure, name_of_side, refusal_status, refusal_text};
 ghost use Rattle.sec_cli.specs.declared.ending.Ending.TheVariants as ends;
 
 use crate::decide::decide;
@@ -119,11 +119,11 @@ fn check<S: Shelf, O: Sink, E: Sink>(
     err: &mut E,
 ) -> u8
     ensures status { Contains (0 ∷ 4 ∷ 5 ∷ 6 ∷ 7 ∷ []) result }
-    ensures equivalent { result ≡ 0 → IsEquivalent (Told S.tells (S.file shelf.old left.now) (S.file shelf.old right.now)) (O.taken out.old) (O.taken out.new) }
-    ensures refused { result ≡ 4 → IsRefusedAs (Told S.tells (S.file shelf.old left.now) (S.file shelf.old right.now)) left.now right.now (E.taken err.old) (E.faults err.old) (E.taken err.new) (E.faults err.new) }
-    ensures read_failed { result ≡ 5 → IsReadFailure (Told S.tells (S.file shelf.old left.now) (S.file shelf.old right.now)) left.now right.now (S.failed shelf.old) (S.failed shelf.new) (E.taken err.old) (E.faults err.old) (E.taken err.new) (E.faults err.new) }
+    ensures equivalent { result ≡ 0 → IsEquivalent (Ended S.tells (S.file shelf.old) left.now right.now) (O.taken out.old) (O.taken out.new) }
+    ensures refused { result ≡ 4 → IsRefusedAs (Ended S.tells (S.file shelf.old) left.now right.now) left.now right.now (E.taken err.old) (E.faults err.old) (E.taken err.new) (E.faults err.new) }
+    ensures read_failed { result ≡ 5 → IsReadFailure (Ended S.tells (S.file shelf.old) left.now right.now) left.now right.now (S.failed shelf.old) (S.failed shelf.new) (E.taken err.old) (E.faults err.old) (E.taken err.new) (E.faults err.new) }
     ensures load_rose { result ≡ 5 → Rose (S.load_faults shelf.old) (S.load_faults shelf.new) }
-    ensures write_failed { result ≡ 6 → IsWriteFailure (Told S.tells (S.file shelf.old left.now) (S.file shelf.old right.now)) (O.taken out.old) (O.taken out.new) }
+    ensures write_failed { result ≡ 6 → IsWriteFailure (Ended S.tells (S.file shelf.old) left.now right.now) (O.taken out.old) (O.taken out.new) }
     ensures out_rose { result ≡ 6 → Rose (O.faults out.old) (O.faults out.new) }
     ensures told_write { result ≡ 6 → IsTold (E.taken err.old) (E.faults err.old) write_failed_text (E.taken err.new) (E.faults err.new) }
     ensures told_memory { result ≡ 7 → IsTold (E.taken err.old) (E.faults err.old) memory_text (E.taken err.new) (E.faults err.new) }
@@ -155,24 +155,24 @@ pub fn run<S: Shelf, O: Sink, E: Sink>(
     err: &mut E,
 ) -> Report
     // Words that aren't plain answer 3, and no other words do.
-    ensures usage { MatchBool (are_plain (map string_bytes words.now)) (result.status ≢ 3) (result.status ≡ 3) }
+    ensures usage { MatchBool (are_plain (texts words.now)) (result.status ≢ 3) (result.status ≡ 3) }
     ensures told_usage { result.status ≡ 3 → IsTold (E.taken err.old) (E.faults err.old) usage_text (E.taken err.new) (E.faults err.new) }
     ensures status { Contains (0 ∷ 3 ∷ 4 ∷ 5 ∷ 6 ∷ 7 ∷ []) result.status }
 
     // The headline: what is printed is the verdict of the two files.
-    ensures equivalent { result.status ≡ 0 → IsEquivalent (Told S.tells (S.file shelf.old (left_name (map string_bytes words.now))) (S.file shelf.old (right_name (map string_bytes words.now))))
+    ensures equivalent { result.status ≡ 0 → IsEquivalent (Ended S.tells (S.file shelf.old) (left_name (texts words.now)) (right_name (texts words.now)))
         (O.taken out.old) (O.taken out.new) }
 
     // A refusal is true of the files, and told.
-    ensures refused { result.status ≡ 4 → IsRefusedAs (Told S.tells (S.file shelf.old (left_name (map string_bytes words.now))) (S.file shelf.old (right_name (map string_bytes words.now))))
-        (left_name (map string_bytes words.now)) (right_name (map string_bytes words.now)) (E.taken err.old) (E.faults err.old) (E.taken err.new) (E.faults err.new) }
+    ensures refused { result.status ≡ 4 → IsRefusedAs (Ended S.tells (S.file shelf.old) (left_name (texts words.now)) (right_name (texts words.now)))
+        (left_name (texts words.now)) (right_name (texts words.now)) (E.taken err.old) (E.faults err.old) (E.taken err.new) (E.faults err.new) }
 
     // Reading fails only where the shelf did, and writing only where the sink did.
     ensures load_rose { result.status ≡ 5 → Rose (S.load_faults shelf.old) (S.load_faults shelf.new) }
-    ensures read_failed { result.status ≡ 5 → IsReadFailure (Told S.tells (S.file shelf.old (left_name (map string_bytes words.now))) (S.file shelf.old (right_name (map string_bytes words.now))))
-        (left_name (map string_bytes words.now)) (right_name (map string_bytes words.now)) (S.failed shelf.old) (S.failed shelf.new) (E.taken err.old) (E.faults err.old) (E.taken err.new) (E.faults err.new) }
+    ensures read_failed { result.status ≡ 5 → IsReadFailure (Ended S.tells (S.file shelf.old) (left_name (texts words.now)) (right_name (texts words.now)))
+        (left_name (texts words.now)) (right_name (texts words.now)) (S.failed shelf.old) (S.failed shelf.new) (E.taken err.old) (E.faults err.old) (E.taken err.new) (E.faults err.new) }
     ensures out_rose { result.status ≡ 6 → Rose (O.faults out.old) (O.faults out.new) }
-    ensures write_failed { result.status ≡ 6 → IsWriteFailure (Told S.tells (S.file shelf.old (left_name (map string_bytes words.now))) (S.file shelf.old (right_name (map string_bytes words.now))))
+    ensures write_failed { result.status ≡ 6 → IsWriteFailure (Ended S.tells (S.file shelf.old) (left_name (texts words.now)) (right_name (texts words.now)))
         (O.taken out.old) (O.taken out.new) }
     ensures told_write { result.status ≡ 6 → IsTold (E.taken err.old) (E.faults err.old) write_failed_text (E.taken err.new) (E.faults err.new) }
     ensures told_memory { result.status ≡ 7 → IsTold (E.taken err.old) (E.faults err.old) memory_text (E.taken err.new) (E.faults err.new) }

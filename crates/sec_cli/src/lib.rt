@@ -10,7 +10,6 @@ mod words;
 
 pub use command::{Report, run};
 pub use ending::{Ending, Side};
-pub use words::is_plain;
 
 #[cfg(test)]
 mod tests;

@@ -1,5 +1,7 @@
+ghost use Rattle.std.specs.Prelude.{◌≢◌};
+
 use super::*;
-use sec_base::{MemShelf, MemSink};
+use sec_base::{MemShelf, MemSink, SureShelf, SureSink};
 use std::alloc::{AllocError, Global};
 use std::test::Fail;
 
@@ -72,6 +74,16 @@ fn check(
         out,
         err,
     }
+}
+
+// Where no device fails, a run ends by the verdict, by a refusal or by want of memory.
+fn run_over_sure_devices(alloc: Global, words: &[String], shelf: &mut SureShelf) -> Report
+    ensures read { result.status ≢ 5 }
+    ensures written { result.status ≢ 6 }
+{
+    let mut out = SureSink::new();
+    let mut err = SureSink::new();
+    run(alloc, words, shelf, &mut out, &mut err)
 }
 
 #[test]
@@ -187,5 +199,10 @@ fn words_and_devices_that_fail_are_told(rt: HostRuntime) -> Result<(), Fail> {
     assert!(rt; answers_so(alloc, &unread, vec![in alloc; 0]?, Vec::new(alloc))?);
     let unwritten = check(TOGGLE, TOGGLE, 6, "", "sec: output: write failed\n");
     assert!(rt; answers_so(alloc, &unwritten, Vec::new(alloc), vec![in alloc; 0]?)?);
+    let mut shelf = SureShelf::new(alloc);
+    if shelf.put("left", TOGGLE.as_bytes()).is_ok() {
+        let words = words_of(alloc, "sec check left left")?;
+        assert!(rt; run_over_sure_devices(alloc, &words, &mut shelf).status == 0);
+    }
     Ok(())
 }

@@ -1,6 +1,6 @@
 // The words of a run.
-ghost use Rattle.std.specs.Prelude.{◌≡◌, List, map, string_bytes};
-ghost use Rattle.sec_cli.specs.Words.{are_plain, is_name};
+ghost use Rattle.std.specs.Prelude.{◌≡◌};
+ghost use Rattle.sec_cli.specs.Words.{are_plain, is_name, texts};
 
 // A name is a nonempty word that doesn't begin with `-`.
 fn is_name(word: &str) -> bool
@@ -13,8 +13,8 @@ fn is_name(word: &str) -> bool
 }
 
 /// Whether the words are the program's name, `check` and the names of two files.
-pub fn is_plain(words: &[String]) -> bool
-    ensures { result ≡ are_plain (map string_bytes words.now) }
+pub(crate) fn is_plain(words: &[String]) -> bool
+    ensures { result ≡ are_plain (texts words.now) }
 {
     words.len() == 4
         && words[1].as_bytes() == b"check".as_slice()
