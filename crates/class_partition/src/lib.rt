@@ -5,6 +5,8 @@
 mod classes;
 mod laws;
 mod split;
+#[cfg(test)]
+mod tests;
 
 pub use classes::{Classes, Needed};
 pub use laws::{refinement, split_function, verdict_of_classes};

@@ -1,0 +1,67 @@
+use crate::{Classes, Needed};
+use bit_rows::BitRow;
+use circ_model::Lit;
+use std::alloc::{AllocError, Global};
+use std::test::Fail;
+
+// A row of six bits, that of place 0 lowest.
+fn row_of(alloc: Global, bits: u32) -> Result<BitRow, AllocError> {
+    let mut row = BitRow::with_len(alloc, 6)?;
+    for i in 0..6 {
+        if i < row.len() {
+            row.set(i, (bits >> i) & 1 == 1);
+        }
+    }
+    Ok(row)
+}
+
+// The least place of each place's class, and the member of the needed pair from each place on; 9 for none.
+fn table_of(classes: &Classes) -> [[u32; 6]; 2] {
+    let mut least = [9; 6];
+    let mut members = [9; 6];
+    for place in 0..6 {
+        if place < classes.len() {
+            least[place as usize] = classes.rep(place);
+            if let Some(pair) = classes.next_pair(place) {
+                members[place as usize] = pair.member;
+            }
+        }
+    }
+    [least, members]
+}
+
+#[test]
+fn rows_split_classes_by_bits_and_phases(rt: HostRuntime) -> Result<(), Fail> {
+    let alloc = rt.alloc();
+    let mut classes = Classes::one_class(alloc, &row_of(alloc, 0b100110)?)?;
+    for (bits, [before, added, after], least, members) in [
+        (0b001010, [1, 1, 2], [0, 0, 2, 2, 0, 2], [1, 1, 3, 3, 4, 5]),
+        (0b101101, [2, 2, 4], [0, 0, 2, 3, 4, 2], [1, 1, 5, 5, 5, 5]),
+        (0b010010, [4, 0, 4], [0, 0, 2, 3, 4, 2], [1, 1, 5, 5, 5, 5]),
+    ] {
+        let copy = classes.copy(alloc)?;
+        let row = row_of(alloc, bits)?;
+        assert!(rt; row.len() == classes.len() && classes.split_by(&row) == added);
+        assert!(rt; copy.count() == before && classes.count() == after);
+        assert!(rt; table_of(&classes) == [least, members]);
+    }
+    assert!(rt;
+        classes.next_pair(2) == Some(Needed { rep: 2, member: 5 }) && classes.next_pair(6).is_none()
+    );
+    // by the phases place 1 is the complement of place 0, and place 5 equals place 2
+    for (a, b, [complement, together, paired]) in [
+        (0, 1, [true, true, true]),
+        (0, 1, [false, true, false]),
+        (2, 5, [false, true, true]),
+        (2, 3, [true, false, false]),
+    ] {
+        assert!(rt; a < classes.len() && b < classes.len() && classes.same(a, b) == together);
+        assert!(rt;
+            a < classes.len()
+                && b < classes.len()
+                && classes.paired(Lit::of(a, false), Lit::of(b, complement)) == paired
+        );
+        assert!(rt; a < classes.len() && classes.phase(a) == (a == 2));
+    }
+    Ok(())
+}
