@@ -8,3 +8,6 @@ mod laws;
 
 pub use file::read_netlist;
 pub use laws::{one_reading, text_files};
+
+#[cfg(test)]
+mod tests;
