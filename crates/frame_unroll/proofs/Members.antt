@@ -1,11 +1,11 @@
 -- The list of the needed pairs: its literals are within the places, and it holds in a row where the classes do.
-use Rattle.std.proofs.Common.{◌≡◌, ◌∙◌, ◌<◌, ◌+◌, ◌-◌, ◌/◌, ◌==◌, ℕ, zero, suc, List, [], ◌∷◌, ◌++◌, length, get_or, refl, ap, sym, subst, arith, Bool, true, false, if◌then◌else◌, length-append, zero-add}
+use Rattle.std.proofs.Common.{◌≡◌, ◌∙◌, ◌<◌, ◌+◌, ◌-◌, ℕ, zero, suc, List, [], ◌∷◌, ◌++◌, length, get_or, refl, ap, sym, subst, arith, Bool, true, false, if◌then◌else◌, length-append, zero-add}
 use Rattle.std.specs.Prelude.{flat_map}
 use Rattle.std.specs.List.{range_with_len, All}
 use Rattle.std.proofs.lemmas.Bool.{eqb-true}
 use Rattle.std.proofs.lemmas.List.{get_or_append_left, get_or-append_right}
 use Rattle.std.proofs.lemmas.List.Elements.{All-append, All-cons, All-head, All-nil}
-use Rattle.circ_model.specs.Meaning.{bit, literal, signed, value_in}
+use Rattle.circ_model.specs.Meaning.{literal, signed, value_in}
 use Rattle.circ_model.specs.Correspondence.{HoldsIn}
 use Rattle.circ_model.proofs.Literals.{half_literal}
 use Rattle.class_partition.specs.Classes.{Classes, ArePartition, least_of, phase_of, needed, is_least, HoldIn}

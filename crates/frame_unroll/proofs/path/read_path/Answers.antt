@@ -5,7 +5,7 @@ use Rattle.std.proofs.Math.Nat.{mul-le-mul_right}
 use Rattle.circ_model.specs.Netlist.{Netlist}
 use Rattle.product_machine.proofs.Size.{few_places}
 use Rattle.circ_model.proofs.Rows.{length_places}
-use Rattle.frame_unroll.proofs.ReadyParts.{reads}
+use Rattle.frame_unroll.proofs.Standing.{reads}
 use Rattle.frame_unroll.proofs.Appending.{all_room}
 use Rattle.frame_unroll.proofs.path.read_path.Goals as goal
 

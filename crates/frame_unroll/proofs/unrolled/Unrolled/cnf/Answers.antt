@@ -1,8 +1,8 @@
-use Rattle.std.proofs.Common.{◌∙◌, ap, sym, subst}
+use Rattle.std.proofs.Common.{◌∙◌, ap, subst}
 use Rattle.cnf_store.specs.Clauses.{IsFormula}
 use Rattle.frame_unroll.specs.Unrolled.{Unrolling, formula_of}
 use Rattle.frame_unroll.specs.Ready.{IsReady}
-use Rattle.frame_unroll.proofs.ReadyParts.{has_row}
+use Rattle.frame_unroll.proofs.Standing.{has_row}
 use Rattle.frame_unroll.proofs.unrolled.Unrolled.cnf.Goals as goal
 
 pub returns-clause-clauses : goal.returns-clause-clauses

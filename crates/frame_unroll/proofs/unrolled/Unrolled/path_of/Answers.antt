@@ -7,7 +7,7 @@ use Rattle.circ_model.specs.Meaning.{Path as Steps}
 use Rattle.frame_unroll.specs.Unrolled.{Unrolling}
 use Rattle.product_machine.specs.Cells.{ReadsFrom}
 use Rattle.frame_unroll.specs.Ready.{IsReady}
-use Rattle.frame_unroll.proofs.ReadyParts.{is_sought}
+use Rattle.frame_unroll.proofs.Standing.{is_sought}
 use Rattle.frame_unroll.proofs.unrolled.Unrolled.path_of.Goals as goal
 
 pub returns-clause-sought : goal.returns-clause-sought

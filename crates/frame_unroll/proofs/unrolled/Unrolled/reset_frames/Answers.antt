@@ -7,7 +7,7 @@ use Rattle.product_machine.specs.Cells.{IsArranged, cells}
 use Rattle.frame_unroll.proofs.Appending.{all_room}
 use Rattle.std.specs.Prelude.{None}
 use Rattle.frame_unroll.specs.Ready.{unrolling, IsReady}
-use Rattle.frame_unroll.proofs.ReadyParts.{ready_reset}
+use Rattle.frame_unroll.proofs.Standing.{ready_reset}
 use Rattle.frame_unroll.proofs.unrolled.Unrolled.reset_frames.Goals as goal
 
 pub add_frames-requires-clause-arranged : goal.add_frames-requires-clause-arranged

@@ -1,6 +1,6 @@
 use Rattle.product_machine.proofs.Follow.{length_cells, arranged}
 use Rattle.circ_model.specs.Meaning.{places_of}
-use Rattle.std.proofs.Common.{◌≡◌, ◌∙◌, ◌<◌, ◌≤◌, ◌+◌, ◌*◌, ◌++◌, ℕ, ℤ, List, length, subst, sym, ap, ap₂, false, arith}
+use Rattle.std.proofs.Common.{◌≡◌, ◌∙◌, ◌≤◌, ◌+◌, ◌*◌, ◌++◌, ℕ, ℤ, List, length, subst, sym, ap, ap₂, false, arith}
 use Rattle.std.specs.List.{All}
 use Rattle.product_machine.specs.declared.cell.Cell.{Cell}
 use Rattle.class_partition.specs.Classes.{ArePartition}
@@ -11,7 +11,7 @@ use Rattle.frame_unroll.specs.Members.{member_pairs}
 use Rattle.frame_unroll.proofs.Questions.{AreWithin}
 use Rattle.frame_unroll.proofs.Members.{members_within}
 use Rattle.frame_unroll.proofs.Appending.{all_room}
-use Rattle.frame_unroll.proofs.ReadyParts.{ready_step}
+use Rattle.frame_unroll.proofs.Standing.{ready_step}
 use Rattle.frame_unroll.proofs.unrolled.Unrolled.step_frames.Goals as goal
 
 pub add_frames-requires-clause-arranged : goal.add_frames-requires-clause-arranged
