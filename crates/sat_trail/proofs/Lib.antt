@@ -1,2 +1,4 @@
-pub mod Placing
 pub mod Levels
+pub mod Placing
+pub mod Reasons
+pub mod Storing

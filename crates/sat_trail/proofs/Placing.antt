@@ -1,7 +1,7 @@
 -- Each literal has its place, and each place its literal.
 use Rattle.std.proofs.Common.{◌≡◌, ◌≢◌, ◌≤◌, ◌<◌, ◌+◌, ◌-◌, ◌==◌, ℕ, zero, suc, ℤ, pos, List, [], ◌∷◌, ◌++◌, set, take, length, get_or, replicate, arith, sym, ◌∙◌, ap, subst, refl, ◌⊎◌, inl, inr, ⊎_elim, true, false, length-set, get_or-set_same, get_or-set_other, unsigned_abs}
 use Rattle.std.proofs.lemmas.Bool.{cases_eq, cases_lt, eq-eqb, ne_eqb}
-use Rattle.std.proofs.lemmas.List.{length_push, get_or_push, get_or_append_left, get_or_default, get_or-replicate, get_or_past, length-replicate}
+use Rattle.std.proofs.lemmas.List.{length_push, get_or_push, get_or_append_left, get_or_default, get_or-replicate, get_or_past, length-replicate, take_more}
 use Rattle.std.specs.Prelude.{if◌then◌else◌}
 use Rattle.std.specs.List.{All}
 use Rattle.cnf_store.specs.Clauses.{IsLiteral}
@@ -139,3 +139,11 @@ placed_pop vars lits at l is =
         let m : literal_at (lits ++ l ∷ []) (get_or at w 0 - 1) ≡ literal_at lits (get_or at w 0 - 1) = get_or_append_left lits (l ∷ []) (pos 0) (get_or at w 0 - 1) less in
         (omega arith, ap (λ (x : ℕ). unsigned_abs (literal_at lits (x - 1))) o ∙ ap unsigned_abs (sym m) ∙ own))
         (cases_eq w v)
+
+-- the newest literal goes, and its place with it
+pub placed_back : (vars : ℕ) (literals : List ℤ) (places : List ℕ) (n : ℕ) → n < length literals → ArePlaces vars (take (n + 1) literals) places → ArePlaces vars (take n literals) (set places (unsigned_abs (literal_at literals n)) 0)
+placed_back vars literals places n lt is =
+    placed_pop vars (take n literals) places (literal_at literals n) (subst (λ (xs : List ℤ). ArePlaces vars xs places) (take_more literals n (pos 0) lt) is)
+
+pub places_few : (vars : ℕ) (literals : List ℤ) (places : List ℕ) → ArePlaces vars literals places → length literals ≤ vars + 1
+places_few vars literals places is = omega (arith, is.count)

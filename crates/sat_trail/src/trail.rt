@@ -1,11 +1,11 @@
 //! The trail. Its literals stand in one row from the oldest on, with their reasons and levels beside them; a table by
 //! variable says where each stands.
 
-ghost use Rattle.std.specs.Prelude.{MatchOption, IfOk, ◌≡◌, ◌≤◌, ◌<◌, ◌+◌, ◌-◌, ◌++◌, ◌∷◌, [], ℕ, ℤ, List, length, take, slice_index, vec_capacity, unsigned_abs, ◌⊎◌, neg_ℤ};
+ghost use Rattle.std.specs.Prelude.{MatchOption, IfOk, ◌≡◌, ◌≢◌, ◌≤◌, ◌<◌, ◌+◌, ◌-◌, ◌++◌, ◌∷◌, [], ℕ, ℤ, List, length, take, slice_index, vec_capacity, unsigned_abs, ◌⊎◌, neg_ℤ};
 ghost use Rattle.std.specs.List.{All, Contains};
 ghost use Rattle.cnf_store.specs.Clauses.{IsLiteral};
 ghost use Rattle.sat_trail.specs.Assigned.{Assigned, literal_of, IsUnassigned, IsAt, IsDecided, decisions, level_at, clause_at, AreReasons, HasGoneBack};
-ghost use Rattle.sat_trail.specs.Stored.{IsStored, ArePlaces};
+ghost use Rattle.sat_trail.specs.Stored.{IsStored, ArePlaces, AreLevels};
 
 use cnf_store::Cnf;
 use std::alloc::{AllocError, Global};
@@ -85,6 +85,63 @@ impl Trail {
             None => None,
         }
     }
+
+    /// Assigns a literal by choice: it opens a level.
+    pub fn decide(&mut self, lit: i32)
+        requires literal { IsLiteral self.old.vars lit }
+        requires unassigned { IsUnassigned self.old (unsigned_abs lit) }
+        ensures assigned { self.new ≡ record { vars = self.old.vars; literals = self.old.literals ++ lit ∷ []; reasons = self.old.reasons ++ 0 ∷ [] } }
+        ensures reasons { (clauses : List (List ℤ)) → AreReasons clauses self.old → AreReasons clauses self.new }
+    {
+        let Trail {
+            literals,
+            reasons,
+            levels,
+            places,
+        } = self;
+        let level = present(levels.as_slice(), reasons.as_slice()) + 1;
+        push(literals, reasons, levels, places, lit, 0, level);
+    }
+
+    /// Assigns a literal that a clause implies.
+    pub fn imply(&mut self, cnf: &Cnf, lit: i32, clause: u64)
+        requires vars { cnf.now.vars ≡ self.old.vars }
+        requires reasons { AreReasons cnf.now.clauses self.old }
+        requires unassigned { IsUnassigned self.old (unsigned_abs lit) }
+        requires first { 0 < clause }
+        requires last { clause ≤ length cnf.now.clauses }
+        requires inside { Contains (clause_at cnf.now.clauses clause) lit }
+        requires others { All (λ m. (m ≡ lit) ⊎ Contains self.old.literals (neg_ℤ m)) (clause_at cnf.now.clauses clause) }
+        ensures assigned { self.new ≡ record { vars = self.old.vars; literals = self.old.literals ++ lit ∷ []; reasons = self.old.reasons ++ clause ∷ [] } }
+        ensures reasons { AreReasons cnf.now.clauses self.new }
+    {
+        let _literals = cnf.clause(clause);
+        let Trail {
+            literals,
+            reasons,
+            levels,
+            places,
+        } = self;
+        let level = present(levels.as_slice(), reasons.as_slice());
+        push(literals, reasons, levels, places, lit, clause, level);
+    }
+
+    /// Unassigns what has a greater level.
+    pub fn back_to(&mut self, level: u32)
+        ensures back { HasGoneBack self.old self.new level }
+        ensures reasons { (clauses : List (List ℤ)) → AreReasons clauses self.old → AreReasons clauses self.new }
+    {
+        let Trail {
+            literals,
+            reasons,
+            levels,
+            places,
+        } = self;
+        let cut = clear(literals.as_slice(), levels.as_slice(), places, level);
+        literals.truncate(cut);
+        reasons.truncate(cut);
+        levels.truncate(cut);
+    }
 }
 
 // Where a variable was assigned.
@@ -101,4 +158,55 @@ fn given(reason: u64) -> Option<u64>
     ensures { MatchOption result (reason ≡ 0) (λ c. (0 < c) × (c ≡ reason)) }
 {
     if reason == 0 { None } else { Some(reason) }
+}
+
+// The present level.
+fn present(levels: &[u32], reasons: &[u64]) -> u32
+    requires { AreLevels reasons.now levels.now }
+    ensures { result ≡ decisions reasons.now }
+{
+    if levels.len() == 0 { 0 } else { levels[levels.len() - 1] }
+}
+
+// Appends a literal with its reason and level.
+fn push(
+    literals: &mut Vec<i32>,
+    reasons: &mut Vec<u64>,
+    levels: &mut Vec<u32>,
+    places: &mut Vec<usize>,
+    lit: i32,
+    reason: u64,
+    level: u32,
+)
+    requires stored { IsStored (length places.old.items - 1) literals.old.items reasons.old.items levels.old.items places.old.items (vec_capacity literals.old) (vec_capacity reasons.old) (vec_capacity levels.old) }
+    requires literal { IsLiteral (length places.old.items - 1) lit }
+    requires unassigned { All (λ l. unsigned_abs l ≢ unsigned_abs lit) literals.old.items }
+    requires level { level ≡ decisions (reasons.old.items ++ reason ∷ []) }
+    ensures stored { IsStored (length places.new.items - 1) literals.new.items reasons.new.items levels.new.items places.new.items (vec_capacity literals.new) (vec_capacity reasons.new) (vec_capacity levels.new) }
+    ensures size { length places.new.items ≡ length places.old.items }
+    ensures literals { literals.new.items ≡ literals.old.items ++ lit ∷ [] }
+    ensures reasons { reasons.new.items ≡ reasons.old.items ++ reason ∷ [] }
+{
+    let place = literals.len();
+    places[lit.unsigned_abs() as usize] = place + 1;
+    literals.push_reserved(lit);
+    reasons.push_reserved(reason);
+    levels.push_reserved(level);
+}
+
+// Takes the places of what has a greater level, and answers where that begins.
+fn clear(literals: &[i32], levels: &[u32], places: &mut Vec<usize>, level: u32) -> usize
+    requires placed { ArePlaces (length places.old.items - 1) literals.now places.old.items }
+    requires same { length levels.now ≡ length literals.now }
+    ensures placed { ArePlaces (length places.old.items - 1) (take result literals.now) places.new.items }
+    ensures within { result ≤ length literals.now }
+    ensures above { (p : ℕ) → result ≤ p → p < length literals.now → level < slice_index levels.now p }
+    ensures last { 0 < result → slice_index levels.now (result - 1) ≤ level }
+{
+    let mut cut = literals.len();
+    'back: while cut > 0 && levels[cut - 1] > level {
+        cut -= 1;
+        places[literals[cut].unsigned_abs() as usize] = 0;
+    }
+    cut
 }
