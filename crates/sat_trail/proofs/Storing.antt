@@ -1,10 +1,10 @@
 -- A stored trail, with a literal more and with all from a place on gone.
 use Rattle.std.proofs.Common.{◌≡◌, ◌≢◌, ◌≤◌, ◌<◌, ◌+◌, ◌-◌, ℕ, ℤ, pos, List, [], ◌∷◌, ◌++◌, take, length, get_or, set, arith, sym, ◌∙◌, ap, subst, refl, ◌⊎◌, inl, inr, ⊎_elim, ◌↔◌, unsigned_abs}
 use Rattle.std.proofs.lemmas.Bool.{cases_lt}
-use Rattle.std.proofs.lemmas.List.{length_push, length-take-le}
+use Rattle.std.proofs.lemmas.List.{length_push, length-take-le, get_or_default}
 use Rattle.std.specs.List.{All}
 use Rattle.cnf_store.specs.Clauses.{IsLiteral}
-use Rattle.sat_trail.specs.Assigned.{Assigned, decisions, level_at, HasGoneBack}
+use Rattle.sat_trail.specs.Assigned.{Assigned, literal_at, decisions, level_at, IsTrail, HasGoneBack}
 use Rattle.sat_trail.specs.Stored.{IsStored, ArePlaces, AreLevels}
 use Rattle.sat_trail.proofs.Placing.{placed_push, has_no_place}
 use Rattle.sat_trail.proofs.Levels.{levels_push, levels_take, level_rises}
@@ -38,7 +38,23 @@ stored_take vars literals reasons levels places now a b c cut is le placed = rec
 pub gone_back : (vars : ℕ) (literals : List ℤ) (reasons levels : List ℕ) (cut level : ℕ) → AreLevels reasons levels → length reasons ≡ length literals → cut ≤ length literals
     → ((p : ℕ) → cut ≤ p → p < length literals → level < get_or levels p 0) → (0 < cut → get_or levels (cut - 1) 0 ≤ level)
     → HasGoneBack (record { vars = vars; literals = literals; reasons = reasons }) (record { vars = vars; literals = take cut literals; reasons = take cut reasons }) level
-gone_back vars literals reasons levels cut level is same le above last = (cut, refl, λ p lt. (
-  λ h. let e = is.each (cut - 1) (omega arith) in let s = last (omega arith) in let r = level_rises reasons p (cut - 1) (omega arith) in omega arith,
-  λ h. ⊎_elim (λ (a : p < cut). a) (λ (b : cut ≤ p). absurd (let e = is.each p (omega arith) in let s = above p b lt in omega arith)) (cases_lt p cut),
-))
+gone_back vars literals reasons levels cut level is same le above last = (
+  cut,
+  refl,
+  λ p lt. (
+    λ h. let e = is.each (cut - 1) (omega arith) in let s = last (omega arith) in let r = level_rises reasons p (cut - 1) (omega arith) in omega arith,
+    λ h. ⊎_elim (λ (a : p < cut). a) (λ (b : cut ≤ p). absurd (let e = is.each p (omega arith) in let s = above p b lt in omega arith)) (cases_lt p cut),
+  ),
+)
+
+pub is_trail : (vars : ℕ) (literals : List ℤ) (reasons levels places : List ℕ) (a b c : ℕ) → IsStored vars literals reasons levels places a b c → IsTrail (record { vars = vars; literals = literals; reasons = reasons })
+is_trail vars literals reasons levels places a b c is = record {
+  few = is.few;
+  same = is.same;
+  within = λ k d lt. subst (IsLiteral vars) (get_or_default literals k (pos 0) d lt) (is.placed.within k lt);
+  once = λ p q lp lq e.
+      let x = is.placed.placed p lp in
+      let y = is.placed.placed q lq in
+      let z : get_or places (unsigned_abs (literal_at literals p)) 0 ≡ get_or places (unsigned_abs (literal_at literals q)) 0 = ap (λ (v : ℕ). get_or places v 0) e in
+      omega arith;
+}

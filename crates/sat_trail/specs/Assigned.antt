@@ -1,6 +1,7 @@
 -- What a trail is: literals in the order in which they were assigned, each decided or implied by a clause.
 use Rattle.std.specs.Prelude.{◌≡◌, ◌≢◌, ◌≤◌, ◌<◌, ◌+◌, ◌-◌, ◌==◌, ℕ, ℤ, pos, neg_ℤ, Bool, List, [], ◌∷◌, length, take, slice_index, slice_index_or, unsigned_abs, ◌⊎◌, ◌↔◌, if◌then◌else◌}
 use Rattle.std.specs.List.{All, Contains}
+use Rattle.cnf_store.specs.Clauses.{IsLiteral}
 
 -- the literals from the oldest on, and beside each the number of the clause that implied it, or 0 where it was decided
 pub record Assigned : Type 0 where
@@ -14,6 +15,13 @@ literal_at literals p = slice_index_or literals p (pos 0)
 -- the literal of this variable that is true where it has this value
 abbrev pub literal_of : ℕ → Bool → ℤ
 literal_of var value = if value then pos var else neg_ℤ (pos var)
+
+-- each variable is assigned at most once
+pub record IsTrail (t : Assigned) : Type 0 where
+  pub few : t.vars ≤ 2147483647
+  pub same : length t.reasons ≡ length t.literals
+  pub within : All (IsLiteral t.vars) t.literals
+  pub once : (p q : ℕ) → p < length t.literals → q < length t.literals → unsigned_abs (literal_at t.literals p) ≡ unsigned_abs (literal_at t.literals q) → p ≡ q
 
 -- no literal of the trail is of this variable
 abbrev pub IsUnassigned : Assigned → ℕ → Type 0

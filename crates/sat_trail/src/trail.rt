@@ -4,7 +4,7 @@
 ghost use Rattle.std.specs.Prelude.{MatchOption, IfOk, ◌≡◌, ◌≢◌, ◌≤◌, ◌<◌, ◌+◌, ◌-◌, ◌++◌, ◌∷◌, [], ℕ, ℤ, List, length, take, slice_index, vec_capacity, unsigned_abs, ◌⊎◌, neg_ℤ};
 ghost use Rattle.std.specs.List.{All, Contains};
 ghost use Rattle.cnf_store.specs.Clauses.{IsLiteral};
-ghost use Rattle.sat_trail.specs.Assigned.{Assigned, literal_of, IsUnassigned, IsAt, IsDecided, decisions, level_at, clause_at, AreReasons, HasGoneBack};
+ghost use Rattle.sat_trail.specs.Assigned.{Assigned, IsTrail, literal_of, IsUnassigned, IsAt, IsDecided, decisions, level_at, clause_at, AreReasons, HasGoneBack};
 ghost use Rattle.sat_trail.specs.Stored.{IsStored, ArePlaces, AreLevels};
 
 use cnf_store::Cnf;
@@ -51,10 +51,12 @@ impl Trail {
     }
 
     /// The value of a variable, where it is assigned.
+    #[tactic(auto, using(crate::proofs::Storing::is_trail))]
     pub fn value(&self, var: u32) -> Option<bool>
         requires first { 0 < var }
         requires last { var ≤ self.now.vars }
-        ensures { MatchOption result (IsUnassigned self.now var) (λ b. Contains self.now.literals (literal_of var b)) }
+        ensures trail { IsTrail self.now }
+        ensures value { MatchOption result (IsUnassigned self.now var) (λ b. Contains self.now.literals (literal_of var b)) }
     {
         match find(self.places.as_slice(), var) {
             Some(place) => Some(self.literals[place] > 0),
@@ -115,6 +117,7 @@ impl Trail {
         ensures assigned { self.new ≡ record { vars = self.old.vars; literals = self.old.literals ++ lit ∷ []; reasons = self.old.reasons ++ clause ∷ [] } }
         ensures reasons { AreReasons cnf.now.clauses self.new }
     {
+        // its literals are of the formula's variables
         let _literals = cnf.clause(clause);
         let Trail {
             literals,
@@ -128,6 +131,7 @@ impl Trail {
 
     /// Unassigns what has a greater level.
     pub fn back_to(&mut self, level: u32)
+        ensures vars { self.new.vars ≡ self.old.vars }
         ensures back { HasGoneBack self.old self.new level }
         ensures reasons { (clauses : List (List ℤ)) → AreReasons clauses self.old → AreReasons clauses self.new }
     {
@@ -165,7 +169,11 @@ fn present(levels: &[u32], reasons: &[u64]) -> u32
     requires { AreLevels reasons.now levels.now }
     ensures { result ≡ decisions reasons.now }
 {
-    if levels.len() == 0 { 0 } else { levels[levels.len() - 1] }
+    if levels.len() == 0 {
+        0
+    } else {
+        levels[levels.len() - 1]
+    }
 }
 
 // Appends a literal with its reason and level.
@@ -209,4 +217,33 @@ fn clear(literals: &[i32], levels: &[u32], places: &mut Vec<usize>, level: u32) 
         places[literals[cut].unsigned_abs() as usize] = 0;
     }
     cut
+}
+
+#[cfg(test)]
+mod tests {
+    use super::Trail;
+    use cnf_store::Cnf;
+    use std::test::Fail;
+
+    #[test]
+    fn going_back_unassigns_what_has_a_greater_level(rt: HostRuntime) -> Result<(), Fail> {
+        let mut cnf = Cnf::new(rt.alloc(), 4)?;
+        cnf.add(&[1])?;
+        cnf.add(&[2, 3, -1])?;
+        let mut trail = Trail::new(rt.alloc(), &cnf)?;
+        assert!(rt; trail.value(1) == None && trail.level(1) == None && trail.reason(1) == None);
+        trail.imply(&cnf, 1, 1);
+        assert!(rt; trail.value(1) == Some(true) && trail.level(1) == Some(0) && trail.reason(1) == Some(1));
+        trail.decide(-2);
+        assert!(rt; trail.value(2) == Some(false) && trail.level(2) == Some(1) && trail.reason(2) == None);
+        trail.imply(&cnf, 3, 2);
+        assert!(rt; trail.value(3) == Some(true) && trail.level(3) == Some(1) && trail.reason(3) == Some(2));
+        trail.decide(-4);
+        assert!(rt; trail.value(4) == Some(false) && trail.level(4) == Some(2));
+        trail.back_to(1);
+        assert!(rt; trail.value(4) == None && trail.level(4) == None && trail.level(3) == Some(1));
+        trail.back_to(0);
+        assert!(rt; trail.value(3) == None && trail.value(2) == None && trail.reason(1) == Some(1));
+        Ok(())
+    }
 }

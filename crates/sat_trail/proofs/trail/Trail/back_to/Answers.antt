@@ -15,10 +15,10 @@ returns-clause-back c =
     let same_vars : length c.clear-cut.new.places.items - 1 ≡ n = omega (arith, e.placed.size) in
     let within : cut ≤ length t.literals.items = subst (λ (xs : List ℤ). cut ≤ length xs) c.as_slice.ensures.value e.within in
     let above : (p : ℕ) → cut ≤ p → p < length t.literals.items → c.args.level < get_or t.levels.items p 0 =
-        subst (λ (xs : List ℤ). (p : ℕ) → cut ≤ p → p < length xs → c.args.level < get_or t.levels.items p 0) c.as_slice.ensures.value
-        (subst (λ (ns : List ℕ). (p : ℕ) → cut ≤ p → p < length c.as_slice.result.now → c.args.level < get_or ns p 0) c.as_slice-2.ensures.value e.above) in
+    subst (λ (xs : List ℤ). (p : ℕ) → cut ≤ p → p < length xs → c.args.level < get_or t.levels.items p 0) c.as_slice.ensures.value
+    (subst (λ (ns : List ℕ). (p : ℕ) → cut ≤ p → p < length c.as_slice.result.now → c.args.level < get_or ns p 0) c.as_slice-2.ensures.value e.above) in
     let last : 0 < cut → get_or t.levels.items (cut - 1) 0 ≤ c.args.level =
-        subst (λ (ns : List ℕ). 0 < cut → get_or ns (cut - 1) 0 ≤ c.args.level) c.as_slice-2.ensures.value e.last in
+    subst (λ (ns : List ℕ). 0 < cut → get_or ns (cut - 1) 0 ≤ c.args.level) c.as_slice-2.ensures.value e.last in
     let back = gone_back n t.literals.items t.reasons.items t.levels.items cut c.args.level c.self.invariant.levelled c.self.invariant.same within above last in
     let old : Assigned = record { vars = n; literals = t.literals.items; reasons = t.reasons.items } in
     subst (λ (s : Assigned). HasGoneBack s (record { vars = length c.clear-cut.new.places.items - 1; literals = lits; reasons = reasons }) c.args.level) c.self.view_is

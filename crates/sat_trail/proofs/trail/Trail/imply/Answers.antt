@@ -20,7 +20,7 @@ returns-clause-reasons c =
     let lits : List ℤ = t.literals.items ++ c.args.lit ∷ [] in
     let old : AreReasons clauses (record { vars = n; literals = t.literals.items; reasons = t.reasons.items }) = subst (AreReasons clauses) (sym c.self.view_is) c.requires.reasons in
     let others : All (λ m. (m ≡ c.args.lit) ⊎ Contains t.literals.items (neg_ℤ m)) (clause_at clauses c.args.clause) =
-        subst (λ (s : Assigned). All (λ m. (m ≡ c.args.lit) ⊎ Contains s.literals (neg_ℤ m)) (clause_at clauses c.args.clause)) (sym c.self.view_is) c.requires.others in
+    subst (λ (s : Assigned). All (λ m. (m ≡ c.args.lit) ⊎ Contains s.literals (neg_ℤ m)) (clause_at clauses c.args.clause)) (sym c.self.view_is) c.requires.others in
     subst (λ (xs : List ℤ). AreReasons clauses (record { vars = n; literals = xs; reasons = c.push.new.reasons.items })) (sym (c.push.ensures.literals ∙ ap (λ (x : ℤ). t.literals.items ++ x ∷ []) (to_z-of_z w32 c.args.lit c.ranges.lit)))
     (subst (λ (rs : List ℕ). AreReasons clauses (record { vars = n; literals = lits; reasons = rs })) (sym c.push.ensures.reasons)
     (reasons_push clauses n t.literals.items t.reasons.items c.args.lit c.args.clause c.self.invariant.same old
