@@ -225,25 +225,43 @@ mod tests {
     use cnf_store::Cnf;
     use std::test::Fail;
 
+    // What a trail says of a variable.
+    fn says(
+        trail: &Trail,
+        var: u32,
+        value: Option<bool>,
+        level: Option<u32>,
+        reason: Option<u64>,
+    ) -> bool
+        requires first { 0 < var }
+        requires last { var ≤ trail.now.vars }
+    {
+        trail.value(var) == value && trail.level(var) == level && trail.reason(var) == reason
+    }
+
     #[test]
     fn going_back_unassigns_what_has_a_greater_level(rt: HostRuntime) -> Result<(), Fail> {
         let mut cnf = Cnf::new(rt.alloc(), 4)?;
         cnf.add(&[1])?;
         cnf.add(&[2, 3, -1])?;
         let mut trail = Trail::new(rt.alloc(), &cnf)?;
-        assert!(rt; trail.value(1) == None && trail.level(1) == None && trail.reason(1) == None);
+        assert!(rt; says(&trail, 1, None, None, None));
         trail.imply(&cnf, 1, 1);
-        assert!(rt; trail.value(1) == Some(true) && trail.level(1) == Some(0) && trail.reason(1) == Some(1));
         trail.decide(-2);
-        assert!(rt; trail.value(2) == Some(false) && trail.level(2) == Some(1) && trail.reason(2) == None);
         trail.imply(&cnf, 3, 2);
-        assert!(rt; trail.value(3) == Some(true) && trail.level(3) == Some(1) && trail.reason(3) == Some(2));
-        trail.decide(-4);
-        assert!(rt; trail.value(4) == Some(false) && trail.level(4) == Some(2));
+        trail.decide(4);
+        assert!(rt; says(&trail, 1, Some(true), Some(0), Some(1)));
+        assert!(rt; says(&trail, 2, Some(false), Some(1), None));
+        assert!(rt; says(&trail, 3, Some(true), Some(1), Some(2)));
+        assert!(rt; says(&trail, 4, Some(true), Some(2), None));
         trail.back_to(1);
-        assert!(rt; trail.value(4) == None && trail.level(4) == None && trail.level(3) == Some(1));
+        assert!(rt;
+            says(&trail, 3, Some(true), Some(1), Some(2)) && says(&trail, 4, None, None, None)
+        );
         trail.back_to(0);
-        assert!(rt; trail.value(3) == None && trail.value(2) == None && trail.reason(1) == Some(1));
+        assert!(rt;
+            says(&trail, 1, Some(true), Some(0), Some(1)) && says(&trail, 2, None, None, None)
+        );
         Ok(())
     }
 }
