@@ -1,6 +1,6 @@
 -- Levels count the decisions up to a place.
-use Rattle.std.proofs.Common.{◌≡◌, ◌≢◌, ◌≤◌, ◌<◌, ◌+◌, ◌-◌, ◌==◌, ℕ, zero, suc, List, [], ◌∷◌, ◌++◌, take, length, get_or, arith, sym, ◌∙◌, ap, subst, refl, ◌⊎◌, inl, inr, ⊎_elim, true, false, get_or-take}
-use Rattle.std.proofs.lemmas.Bool.{cases_eq, cases_lt, eq-eqb, ne_eqb}
+use Rattle.std.proofs.Common.{◌≡◌, ◌≤◌, ◌<◌, ◌+◌, ◌==◌, ℕ, zero, suc, List, [], ◌∷◌, ◌++◌, take, length, arith, sym, ◌∙◌, ap, refl, ⊎_elim, true, false, get_or-take}
+use Rattle.std.proofs.lemmas.Bool.{cases_lt, ne_eqb}
 use Rattle.std.proofs.lemmas.List.{length_push, get_or_push, get_or_append_left, length-take-le, take-take, take_all, take-append-le}
 use Rattle.std.specs.Prelude.{if◌then◌else◌}
 use Rattle.sat_trail.specs.Assigned.{decisions, level_at}

@@ -1,11 +1,10 @@
 -- Each literal has its place, and each place its literal.
-use Rattle.std.proofs.Common.{◌≡◌, ◌≢◌, ◌≤◌, ◌<◌, ◌+◌, ◌-◌, ◌==◌, ℕ, zero, suc, ℤ, pos, List, [], ◌∷◌, ◌++◌, set, take, length, get_or, replicate, arith, sym, ◌∙◌, ap, subst, refl, ◌⊎◌, inl, inr, ⊎_elim, true, false, length-set, get_or-set_same, get_or-set_other, unsigned_abs}
+use Rattle.std.proofs.Common.{◌≡◌, ◌≢◌, ◌≤◌, ◌<◌, ◌+◌, ◌-◌, ◌==◌, ℕ, zero, suc, ℤ, pos, List, [], ◌∷◌, ◌++◌, set, take, length, get_or, replicate, arith, sym, ◌∙◌, ap, subst, refl, ⊎_elim, true, false, length-set, get_or-set_same, get_or-set_other, unsigned_abs}
 use Rattle.std.proofs.lemmas.Bool.{cases_eq, cases_lt, eq-eqb, ne_eqb}
 use Rattle.std.proofs.lemmas.List.{length_push, get_or_push, get_or_append_left, get_or_default, get_or-replicate, get_or_past, length-replicate, take_more}
-use Rattle.std.specs.Prelude.{if◌then◌else◌}
 use Rattle.std.specs.List.{All}
 use Rattle.cnf_store.specs.Clauses.{IsLiteral}
-use Rattle.sat_trail.specs.Assigned.{Assigned, literal_at, decisions, IsAt, IsUnassigned}
+use Rattle.sat_trail.specs.Assigned.{literal_at, decisions, IsAt}
 use Rattle.sat_trail.specs.Stored.{ArePlaces}
 
 -- a variable without a place is that of no literal

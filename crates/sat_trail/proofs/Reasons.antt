@@ -1,9 +1,9 @@
 -- Reasons stay what they are while the trail grows, and when it is cut.
-use Rattle.std.proofs.Common.{◌≡◌, ◌≢◌, ◌≤◌, ◌<◌, ◌+◌, ◌-◌, ℕ, ℤ, pos, neg_ℤ, List, [], ◌∷◌, ◌++◌, take, length, get_or, arith, sym, ◌∙◌, ap, subst, refl, ◌⊎◌, inl, inr, ⊎_elim, get_or-take}
+use Rattle.std.proofs.Common.{◌≡◌, ◌≤◌, ◌<◌, ℕ, ℤ, pos, neg_ℤ, List, [], ◌∷◌, ◌++◌, take, length, get_or, arith, sym, ◌∙◌, subst, refl, ◌⊎◌, inl, inr, ⊎_elim, get_or-take}
 use Rattle.std.proofs.lemmas.Bool.{cases_lt}
 use Rattle.std.proofs.lemmas.List.{length_push, get_or_push, get_or_append_left, length-take-le, get_or_default}
 use Rattle.std.specs.List.{All, Contains}
-use Rattle.sat_trail.specs.Assigned.{Assigned, literal_at, clause_at, StandsBefore, IsReason, AreReasons}
+use Rattle.sat_trail.specs.Assigned.{literal_at, clause_at, StandsBefore, IsReason, AreReasons}
 
 -- on a trail that agrees as far as p
 reason_along : (clauses : List (List ℤ)) (a b : List ℤ) (p c : ℕ) → ((q : ℕ) → q ≤ p → literal_at b q ≡ literal_at a q) → IsReason clauses a p c → IsReason clauses b p c

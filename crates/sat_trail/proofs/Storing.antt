@@ -1,10 +1,10 @@
 -- A stored trail, with a literal more and with all from a place on gone.
-use Rattle.std.proofs.Common.{◌≡◌, ◌≢◌, ◌≤◌, ◌<◌, ◌+◌, ◌-◌, ℕ, ℤ, pos, List, [], ◌∷◌, ◌++◌, take, length, get_or, set, arith, sym, ◌∙◌, ap, subst, refl, ◌⊎◌, inl, inr, ⊎_elim, ◌↔◌, unsigned_abs}
+use Rattle.std.proofs.Common.{◌≡◌, ◌≢◌, ◌≤◌, ◌<◌, ◌+◌, ◌-◌, ℕ, ℤ, pos, List, [], ◌∷◌, ◌++◌, take, length, get_or, set, arith, ap, subst, refl, ⊎_elim, unsigned_abs}
 use Rattle.std.proofs.lemmas.Bool.{cases_lt}
 use Rattle.std.proofs.lemmas.List.{length_push, length-take-le, get_or_default}
 use Rattle.std.specs.List.{All}
 use Rattle.cnf_store.specs.Clauses.{IsLiteral}
-use Rattle.sat_trail.specs.Assigned.{Assigned, literal_at, decisions, level_at, IsTrail, HasGoneBack}
+use Rattle.sat_trail.specs.Assigned.{literal_at, decisions, IsTrail, HasGoneBack}
 use Rattle.sat_trail.specs.Stored.{IsStored, ArePlaces, AreLevels}
 use Rattle.sat_trail.proofs.Placing.{placed_push, has_no_place}
 use Rattle.sat_trail.proofs.Levels.{levels_push, levels_take, level_rises}

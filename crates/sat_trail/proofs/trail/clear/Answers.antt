@@ -1,4 +1,4 @@
-use Rattle.std.proofs.Common.{rules, arith, ◌≡◌, ◌≢◌, ◌≤◌, ◌<◌, ◌+◌, ◌-◌, ℕ, ℤ, List, length, take, set, get_or, sym, ◌∙◌, ap, subst, unsigned_abs, ⊎_elim}
+use Rattle.std.proofs.Common.{rules, arith, ◌≡◌, ◌≢◌, ◌<◌, ◌+◌, ◌-◌, ℕ, ℤ, List, length, take, set, get_or, sym, subst, unsigned_abs, ⊎_elim}
 use Rattle.std.proofs.lemmas.Bool.{cases_eq}
 use Rattle.sat_trail.specs.Assigned.{literal_at}
 use Rattle.sat_trail.specs.Stored.{ArePlaces}

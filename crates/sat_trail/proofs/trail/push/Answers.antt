@@ -1,6 +1,5 @@
-use Rattle.std.proofs.Common.{rules, arith, to_z, of_z, w32, ◌≡◌, ◌≤◌, ◌<◌, ◌+◌, ◌-◌, ◌++◌, ◌∷◌, [], ℕ, ℤ, List, length, set, sym, ◌∙◌, ap, subst, length-set, unsigned_abs, vec_capacity}
+use Rattle.std.proofs.Common.{rules, arith, to_z, of_z, w32, ◌≡◌, ◌+◌, ◌-◌, ◌++◌, ◌∷◌, [], ℕ, ℤ, List, length, ◌∙◌, ap, length-set, unsigned_abs, vec_capacity}
 use Rattle.std.proofs.lemmas.Int.{to_z-of_z}
-use Rattle.sat_trail.specs.Stored.{IsStored}
 use Rattle.sat_trail.proofs.Placing.{has_room, has_no_place}
 use Rattle.sat_trail.proofs.Storing.{stored_push}
 use Rattle.sat_trail.proofs.trail.push.Goals as goal

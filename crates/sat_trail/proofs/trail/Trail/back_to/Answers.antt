@@ -1,4 +1,4 @@
-use Rattle.std.proofs.Common.{rules, arith, ◌≡◌, ◌≤◌, ◌<◌, ◌-◌, ℕ, ℤ, List, length, take, get_or, sym, ◌∙◌, ap, subst}
+use Rattle.std.proofs.Common.{arith, ◌≡◌, ◌≤◌, ◌<◌, ◌-◌, ℕ, ℤ, List, length, take, get_or, sym, subst}
 use Rattle.sat_trail.specs.Assigned.{Assigned, AreReasons, HasGoneBack}
 use Rattle.sat_trail.proofs.Storing.{gone_back}
 use Rattle.sat_trail.proofs.Reasons.{reasons_take}

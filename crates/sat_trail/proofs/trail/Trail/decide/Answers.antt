@@ -1,6 +1,6 @@
-use Rattle.std.proofs.Common.{rules, arith, to_z, of_z, w32, ◌≡◌, ◌+◌, ◌-◌, ◌++◌, ◌∷◌, [], ℕ, ℤ, List, length, sym, ◌∙◌, ap, subst}
+use Rattle.std.proofs.Common.{rules, arith, w32, ◌≡◌, ◌+◌, ◌-◌, ◌++◌, ◌∷◌, [], ℕ, ℤ, List, length, sym, ◌∙◌, ap, subst}
 use Rattle.std.proofs.lemmas.Int.{to_z-of_z}
-use Rattle.sat_trail.specs.Assigned.{Assigned, decisions, AreReasons}
+use Rattle.sat_trail.specs.Assigned.{decisions, AreReasons}
 use Rattle.sat_trail.proofs.Levels.{decisions_le, decisions_decided}
 use Rattle.sat_trail.proofs.Placing.{places_few}
 use Rattle.sat_trail.proofs.Reasons.{reasons_push}

@@ -1,4 +1,4 @@
-use Rattle.std.proofs.Common.{rules, arith, to_z, of_z, w32, ◌≡◌, ◌+◌, ◌-◌, ◌++◌, ◌∷◌, [], ℕ, ℤ, neg_ℤ, List, length, sym, ◌∙◌, ap, subst, ◌⊎◌}
+use Rattle.std.proofs.Common.{rules, w32, ◌≡◌, ◌-◌, ◌++◌, ◌∷◌, [], ℕ, ℤ, neg_ℤ, List, length, sym, ◌∙◌, ap, subst, ◌⊎◌}
 use Rattle.std.specs.List.{All, Contains}
 use Rattle.std.proofs.lemmas.Int.{to_z-of_z}
 use Rattle.sat_trail.specs.Assigned.{Assigned, decisions, clause_at, AreReasons}

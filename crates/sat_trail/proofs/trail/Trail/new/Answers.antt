@@ -1,6 +1,6 @@
-use Rattle.std.proofs.Common.{rules, arith, ◌≡◌, ◌+◌, ◌-◌, [], ℕ, ℤ, List, length, replicate, sym, ◌∙◌, ap, subst, vec_capacity}
+use Rattle.std.proofs.Common.{rules, arith, ◌≡◌, ◌+◌, ◌-◌, [], ℕ, ℤ, List, length, replicate, sym, ◌∙◌, ap, subst}
 use Rattle.std.proofs.lemmas.List.{length-replicate}
-use Rattle.sat_trail.specs.Stored.{IsStored, ArePlaces, AreLevels}
+use Rattle.sat_trail.specs.Stored.{ArePlaces, AreLevels}
 use Rattle.sat_trail.proofs.Placing.{placed_none}
 use Rattle.sat_trail.proofs.Levels.{levels_none}
 use Rattle.sat_trail.proofs.trail.Trail.new.Goals as goal

@@ -1,5 +1,5 @@
-use Rattle.std.proofs.Common.{rules, arith, ◌≡◌, ℕ, List, ◌⊎◌, inl, inr, subst, length, ◌-◌, ap}
-use Rattle.sat_trail.specs.Assigned.{Assigned, IsUnassigned, IsDecided}
+use Rattle.std.proofs.Common.{rules, inl, subst, length, ◌-◌}
+use Rattle.sat_trail.specs.Assigned.{Assigned, IsUnassigned}
 use Rattle.sat_trail.proofs.Placing.{unplaced}
 use Rattle.sat_trail.proofs.trail.Trail.reason.Goals as goal
 

@@ -1,4 +1,4 @@
-use Rattle.std.proofs.Common.{rules, arith, ◌≡◌, ◌<◌, ◌++◌, ◌∷◌, [], ℕ, zero, suc, ℤ, pos, negsuc, neg_ℤ, List, sym, ◌∙◌, ap, subst, refl, ◌⊎◌, inl, inr}
+use Rattle.std.proofs.Common.{arith, ◌≡◌, ◌++◌, ◌∷◌, [], ℕ, zero, suc, ℤ, pos, negsuc, neg_ℤ, List, sym, ◌∙◌, ap, subst, refl, ◌⊎◌, inl, inr}
 use Rattle.std.specs.List.{All, Contains}
 use Rattle.cnf_store.specs.Clauses.{Formula}
 use Rattle.sat_trail.specs.Assigned.{Assigned, clause_at}
