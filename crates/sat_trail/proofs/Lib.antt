@@ -1,3 +1,4 @@
+pub mod Implying
 pub mod Levels
 pub mod Placing
 pub mod Reasons

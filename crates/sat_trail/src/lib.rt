@@ -4,6 +4,8 @@
 //! that implied it, and going back unassigns from the newest on. All memory is taken when the trail is made.
 #![tactic(auto)]
 
+mod laws;
 mod trail;
 
+pub use laws::reasons_imply;
 pub use trail::Trail;
