@@ -1,0 +1,4 @@
+pub mod Splits
+pub mod Starts
+pub mod Again
+pub mod Runs

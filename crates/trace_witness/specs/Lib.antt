@@ -1,0 +1,4 @@
+pub mod Names
+pub mod Lines
+pub mod Bits
+pub mod Texts
