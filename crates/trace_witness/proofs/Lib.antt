@@ -2,3 +2,4 @@ pub mod Splits
 pub mod Starts
 pub mod Again
 pub mod Runs
+pub mod Outputs

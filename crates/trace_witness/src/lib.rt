@@ -6,8 +6,10 @@ mod bits;
 mod fault;
 mod lines;
 mod read;
+mod replay;
 mod write;
 
 pub use fault::{TraceError, TraceFault, TraceKind};
 pub use read::{Trace, read_trace};
+pub use replay::first_difference;
 pub use write::write_trace;
