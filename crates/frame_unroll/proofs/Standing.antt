@@ -1,39 +1,33 @@
--- What the calls leave.
-use Rattle.frame_unroll.specs.Frames.{literal_in, values}
+-- What the calls leave: the formula is that of the unrolling, and what was read from a row is a path that is sought.
+use Rattle.frame_unroll.specs.Frames.{literal_in, values, frames, class_clauses}
 use Rattle.circ_model.specs.Correspondence.{IsLiteralPair}
 use Rattle.frame_unroll.proofs.Reading.{sought}
-use Rattle.circ_model.specs.Meaning.{places_of, left_from, right_from}
+use Rattle.circ_model.specs.Meaning.{places_of, left_from, right_from, Pair, IsSoundPair, Path, bit}
 use Rattle.std.proofs.Common.{◌≡◌, ◌∙◌, ◌<◌, ◌≤◌, ◌+◌, ◌-◌, ◌*◌, ℕ, zero, suc, List, [], ◌++◌, length, get_or, refl, ap, ap₂, sym, subst, arith, ℤ, Bool, true, false, append-nil}
 use Rattle.std.specs.Prelude.{flat_map, Option, None}
 use Rattle.std.specs.List.{range_with_len, All}
 use Rattle.std.proofs.lemmas.List.Elements.{All-nil}
-use Rattle.circ_model.specs.Meaning.{Pair, IsSoundPair, Path}
 use Rattle.cnf_store.specs.Clauses.{satisfies, Formula, IsFormula, AreClauses}
 use Rattle.frame_unroll.specs.declared.question.Question.{Question}
-use Rattle.product_machine.specs.Cells.{cells}
-use Rattle.frame_unroll.specs.Frames.{frames}
+use Rattle.product_machine.specs.Cells.{cells, Shows, ReadsFrom}
 use Rattle.frame_unroll.specs.Unrolled.{Unrolling, IsSought, IsUnrolling, clauses_of, plain_clauses, variables_of, asked_clauses, asked_variables}
-use Rattle.product_machine.specs.Cells.{Shows}
-use Rattle.circ_model.specs.Meaning.{places_of}
-use Rattle.frame_unroll.specs.Frames.{class_clauses}
 use Rattle.frame_unroll.proofs.Assigning.{assignment_of, assignment_shows, length_assignment, assigned}
-use Rattle.product_machine.specs.Cells.{ReadsFrom}
-use Rattle.circ_model.specs.Meaning.{bit}
-use Rattle.circ_model.specs.Meaning.{left_from, right_from}
 use Rattle.circ_model.proofs.Rows.{length_own}
 use Rattle.frame_unroll.specs.Ready.{unrolling, IsReady}
 
+-- no needed pairs, no clauses
 no_pieces : {X : Type 0} (from n : ℕ) → flat_map {X = ℕ} {A = X} (λ t. []) (range_with_len from n) ≡ []
 no_pieces from zero = refl
 no_pieces from (suc n) = no_pieces (from + 1) n
 
+-- without a question there are the variables and clauses of the frames alone
 pub bare_variables : (u : Unrolling) → u.asked ≡ None → variables_of u ≡ u.frames * places_of u.pair
 bare_variables u none = ap (λ (o : Option Question). u.frames * places_of u.pair + asked_variables o) none ∙ (let e : u.frames * places_of u.pair + 0 ≡ u.frames * places_of u.pair = omega arith in e)
 
 pub bare_clauses : (u : Unrolling) → u.asked ≡ None → clauses_of u ≡ plain_clauses u
 bare_clauses u none = ap (λ (o : Option Question). plain_clauses u ++ asked_clauses (places_of u.pair) (u.frames * places_of u.pair) o) none ∙ append-nil (plain_clauses u)
 
--- without a question
+-- the formula is ready before a question
 ready_plain : (u : Unrolling) (formula : Formula) (plain : ℕ) → IsSoundPair u.pair → IsUnrolling u → u.frames ≤ 64 → IsFormula formula → formula.vars ≡ u.frames * places_of u.pair → plain_clauses u ≡ formula.clauses → plain ≡ length formula.clauses → u.asked ≡ None → IsReady u formula plain
 ready_plain u formula plain is fine few form vars p n none = record {
   pair = is;
@@ -44,6 +38,7 @@ ready_plain u formula plain is fine few form vars p n none = record {
   within = subst (λ (v : ℕ). AreClauses v (plain_clauses u)) vars (subst (AreClauses formula.vars) (sym p) form.within);
 }
 
+-- frames from reset
 pub ready_reset : (pair : Pair) (t : ℕ) (formula : Formula) (plain : ℕ) → IsSoundPair pair → 0 < t → t ≤ 64 → IsFormula formula → formula.vars ≡ t * places_of pair → formula.clauses ≡ frames (literal_in (places_of pair)) true (cells pair) t → plain ≡ length formula.clauses → IsReady (unrolling pair true t [] None) formula plain
 ready_reset pair t formula plain is some few form vars e n =
     let u : Unrolling = unrolling pair true t [] None in
@@ -73,6 +68,7 @@ reads pair count a first rows i l g r n is ei el eg er en len left right many si
 pub is_sought : (u : Unrolling) (formula : Formula) (plain : ℕ) (a : List Bool) (path : Path) → IsReady u formula plain → satisfies a (clauses_of u) ≡ true → ReadsFrom u.pair u.frames (values a (places_of u.pair)) path → IsSought u path × Shows u.pair u.frames (values a (places_of u.pair)) path
 is_sought u formula plain a path ready sat h = sought u path a ready.pair ready.fine h sat
 
+-- frames in which the classes hold, and the next
 pub ready_step : (pair : Pair) (k : ℕ) (needed : List (ℕ × ℕ)) (formula : Formula) (plain : ℕ) → IsSoundPair pair → k < 64 → All (IsLiteralPair pair) needed → IsFormula formula → formula.vars ≡ (k + 1) * places_of pair
     → formula.clauses ≡ frames (literal_in (places_of pair)) false (cells pair) (k + 1) ++ class_clauses (literal_in (places_of pair)) k needed → plain ≡ length formula.clauses → IsReady (unrolling pair false (k + 1) needed None) formula plain
 ready_step pair k needed formula plain is few literals form vars e n =

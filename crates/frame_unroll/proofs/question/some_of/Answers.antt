@@ -1,7 +1,6 @@
-use Rattle.std.proofs.Common.{◌∙◌, ◌+◌, ◌++◌, ◌∷◌, [], ℤ, List, true, ap₂, sym, zero-add, rules, FitsSigned}
+use Rattle.std.proofs.Common.{◌∙◌, ◌+◌, ◌++◌, ◌∷◌, [], ℤ, List, true, ap₂, sym, zero-add, rules, FitsSigned, w32}
 use Rattle.std.proofs.lemmas.List.FromFn.{map-range_with_len_more}
 use Rattle.std.proofs.lemmas.Int.{to_z-of_z}
-use Rattle.std.proofs.Common.{w32}
 use Rattle.frame_unroll.specs.Frames.{cnf_literal}
 use Rattle.frame_unroll.proofs.question.some_of.Goals as goal
 

@@ -1,9 +1,8 @@
-use Rattle.circ_model.specs.Meaning.{places_of}
+use Rattle.circ_model.specs.Meaning.{places_of, Path as Steps}
 use Rattle.frame_unroll.specs.Frames.{values}
 use Rattle.std.proofs.Common.{subst}
 use Rattle.std.proofs.lemmas.Result.{IfOk-weaker}
 use Rattle.std.specs.Result.{IfOk}
-use Rattle.circ_model.specs.Meaning.{Path as Steps}
 use Rattle.frame_unroll.specs.Unrolled.{Unrolling}
 use Rattle.product_machine.specs.Cells.{ReadsFrom}
 use Rattle.frame_unroll.specs.Ready.{IsReady}
