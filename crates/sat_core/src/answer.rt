@@ -1,7 +1,7 @@
 //! What the solver answers, and the one call that asks it.
 
-ghost use Rattle.std.specs.Prelude.{◌≡◌, IfOk};
-ghost use Rattle.sat_core.specs.Answers.{IsAnswer};
+ghost use Rattle.std.specs.Prelude.{◌≡◌, ◌≤◌, IfOk};
+ghost use Rattle.sat_core.specs.Answers.{IsAnswer, joined};
 
 use crate::edge::{bits_of, codes_of, log_of};
 use crate::solving::{Outcome, search};
@@ -23,8 +23,18 @@ pub enum Answer {
 pub fn solve(alloc: Global, cnf: &Cnf) -> Result<Answer, AllocError>
     ensures { IfOk result (IsAnswer cnf.now) }
 {
-    let formula = codes_of(alloc, cnf)?;
-    match search(alloc, cnf.vars() as usize, &formula)? {
+    let none = Cnf::new(alloc, 0)?;
+    solve_with(alloc, &none, cnf)
+}
+
+/// The same of two formulas together, over the variables of the second: its clauses come after those of the first, which
+/// many questions may share.
+pub fn solve_with(alloc: Global, shared: &Cnf, own: &Cnf) -> Result<Answer, AllocError>
+    requires { shared.now.vars ≤ own.now.vars }
+    ensures { IfOk result (IsAnswer (joined shared.now own.now)) }
+{
+    let formula = codes_of(alloc, shared, own)?;
+    match search(alloc, own.vars() as usize, &formula)? {
         Outcome::Sat(row) => Ok(Answer::Sat(bits_of(alloc, &row)?)),
         Outcome::Unsat(lines) => Ok(Answer::Unsat(log_of(alloc, &lines)?)),
     }

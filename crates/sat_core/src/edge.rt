@@ -1,6 +1,6 @@
 //! The edge between literals as signed numbers, as formulas and logs have them, and their codes, as the solver has them.
 
-ghost use Rattle.std.specs.Prelude.{◌≡◌, ◌≢◌, ◌≤◌, ◌<◌, ◌-◌, ◌*◌, ◌^◌, pos, ◌≤ℤ◌, ◌<ℤ◌, ℕ, ℤ, neg_ℤ, map, length, slice_index_or, Bool, false, IfOk, unsigned_abs};
+ghost use Rattle.std.specs.Prelude.{◌≡◌, ◌≢◌, ◌≤◌, ◌<◌, ◌-◌, ◌*◌, ◌^◌, ◌++◌, pos, ◌≤ℤ◌, ◌<ℤ◌, ℕ, ℤ, neg_ℤ, map, length, slice_index_or, Bool, false, IfOk, OnOk, unsigned_abs};
 ghost use Rattle.std.specs.List.{All};
 ghost use Rattle.cnf_store.specs.Clauses.{IsLiteral, AreLiterals};
 ghost use Rattle.sat_core.specs.Derivations.{AreWithin};
@@ -52,18 +52,37 @@ fn push_codes(clause: &[i32], vars: u32, codes: &mut Vec<u32>) -> Result<(), All
     Ok(())
 }
 
-/// A formula's clauses by codes.
-pub fn codes_of(alloc: Global, cnf: &Cnf) -> Result<Arena<u32>, AllocError>
-    ensures value { IfOk result (λ db. signed_clauses db ≡ cnf.now.clauses) }
-    ensures within { IfOk result (λ db. AreWithin cnf.now.vars db) }
+// Appends a formula's clauses by codes.
+fn add_codes(
+    cnf: &Cnf,
+    vars: u32,
+    codes: &mut Vec<u32>,
+    clauses: &mut Arena<u32>,
+) -> Result<(), AllocError>
+    requires few { vars ≤ 2147483647 }
+    requires vars { cnf.now.vars ≤ vars }
+    requires within { AreWithin vars clauses.old }
+    ensures value { OnOk result (signed_clauses clauses.new ≡ signed_clauses clauses.old ++ cnf.now.clauses) }
+    ensures within { OnOk result (AreWithin vars clauses.new) }
 {
-    let vars = cnf.vars();
+    for i in 0..cnf.len() {
+        push_codes(cnf.clause(i + 1), vars, codes)?;
+        clauses.add(codes)?;
+    }
+    Ok(())
+}
+
+/// The clauses of a shared formula by codes, then those of the other.
+pub fn codes_of(alloc: Global, shared: &Cnf, own: &Cnf) -> Result<Arena<u32>, AllocError>
+    requires { shared.now.vars ≤ own.now.vars }
+    ensures value { IfOk result (λ db. signed_clauses db ≡ shared.now.clauses ++ own.now.clauses) }
+    ensures within { IfOk result (λ db. AreWithin own.now.vars db) }
+{
+    let vars = own.vars();
     let mut clauses = Arena::new(alloc);
     let mut codes = Vec::new(alloc);
-    for i in 0..cnf.len() {
-        push_codes(cnf.clause(i + 1), vars, &mut codes)?;
-        clauses.add(&codes)?;
-    }
+    add_codes(shared, vars, &mut codes, &mut clauses)?;
+    add_codes(own, vars, &mut codes, &mut clauses)?;
     Ok(clauses)
 }
 

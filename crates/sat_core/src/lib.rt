@@ -16,4 +16,4 @@ mod solving;
 mod trail;
 mod watching;
 
-pub use answer::{Answer, solve};
+pub use answer::{Answer, solve, solve_with};
