@@ -74,7 +74,12 @@ fn input_rows(
 }
 
 // A row of so many bits of another.
-fn part_of(alloc: Global, from: &BitRow, at: u32, count: u32) -> Result<BitRow, AllocError>
+pub(crate) fn part_of(
+    alloc: Global,
+    from: &BitRow,
+    at: u32,
+    count: u32,
+) -> Result<BitRow, AllocError>
     requires source { at + count ≤ length from.now }
     requires room { at + count < 4294967296 }
     ensures size { IfOk result (λ r. length r ≡ count) }

@@ -24,13 +24,13 @@ use std::marker::Model;
 /// from reset, their number, the needed pairs that hold in all frames but the last, and the question.
 #[derive(Drop)]
 pub struct Unrolled<'p> {
-    product: &'p Product,
-    cnf: Cnf,
-    plain: u64,
-    reset: bool,
-    count: u32,
-    pairs: Vec<(Lit, Lit)>,
-    question: Option<Question>,
+    pub(crate) product: &'p Product,
+    pub(crate) cnf: Cnf,
+    pub(crate) plain: u64,
+    pub(crate) reset: bool,
+    pub(crate) count: u32,
+    pub(crate) pairs: Vec<(Lit, Lit)>,
+    pub(crate) question: Option<Question>,
 }
 
 impl<'p> Model for Unrolled<'p> {

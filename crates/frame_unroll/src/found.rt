@@ -1,0 +1,147 @@
+//! One question over frames that stay as they are: the clauses of the question stand beside theirs, and the solver reads
+//! both. It tells the least frame of a path in which two literals differ, or gives a log that there is no such path.
+ghost use Rattle.std.specs.Prelude.{◌≡◌, ◌<◌, ◌≤◌, ◌+◌, ◌*◌, ◌/◌, ℕ, true, false, not, length, IfOk, None, Some};
+ghost use Rattle.circ_model.specs.Correspondence.{IsLiteral};
+ghost use Rattle.circ_model.specs.Meaning.{IsSoundPair, places_of, literal_value};
+ghost use Rattle.cnf_store.specs.Clauses.{satisfies};
+ghost use Rattle.frame_unroll.specs.Found.{IsSeen, IsFound, asks, asking, EqualIn, DiffersIn};
+ghost use Rattle.frame_unroll.specs.Frames.{values};
+ghost use Rattle.frame_unroll.specs.Unrolled.{AreFramesOf, IsUnrolling, asked_clauses, clauses_of, variables_of};
+
+use crate::path::{part_of, read_path};
+use crate::question::{Question, add_asked};
+use crate::unrolled::Unrolled;
+use bit_rows::BitRow;
+use circ_model::Lit;
+use cnf_store::Cnf;
+use product_machine::Path;
+use sat_core::{Answer, solve_with};
+use sat_log::Log;
+use std::alloc::{AllocError, Global};
+
+/// A path on which two literals differ: the least frame of those asked in which they do, and the values of all places there.
+#[derive(Drop)]
+pub struct Seen {
+    /// The path, of all the frames.
+    pub path: Path,
+    /// The frame, counted from 0.
+    pub frame: u32,
+    /// A bit for each place.
+    pub bits: BitRow,
+}
+
+/// What a question comes to.
+#[derive(Drop)]
+pub enum Found {
+    /// No path that is sought has them apart: the log derives the empty clause.
+    None(Log),
+    /// This one has.
+    Path(Seen),
+}
+
+impl<'p> Unrolled<'p> {
+    /// Whether two literals differ, in some of the frames first to last, on some path that the frames ask for. The frames
+    /// stay as they are.
+    pub fn find(
+        &self,
+        alloc: Global,
+        a: Lit,
+        b: Lit,
+        first: u32,
+        last: u32,
+    ) -> Result<Found, AllocError>
+        requires none { self.now.asked ≡ None }
+        requires left { IsLiteral self.now.pair a }
+        requires right { IsLiteral self.now.pair b }
+        requires order { first ≤ last }
+        requires within { last < self.now.frames }
+        ensures { IfOk result (IsFound self.now (asks a b first last)) }
+    {
+        let _frames = self.count;
+        let question = Question {
+            a,
+            b,
+            first,
+            count: last - first + 1,
+        };
+        let own = self.beside(alloc, question)?;
+        match solve_with(alloc, self.cnf(), &own)? {
+            Answer::Unsat(log) => Ok(Found::None(log)),
+            Answer::Sat(row) => Ok(Found::Path(self.seen_in(alloc, &row, question)?)),
+        }
+    }
+
+    // The clauses of a question beside those of the frames.
+    fn beside(&self, alloc: Global, question: Question) -> Result<Cnf, AllocError>
+        requires asked { AreFramesOf self.now.frames self.now.pair (Some question) }
+        ensures vars { IfOk result (λ own. own.vars ≡ variables_of (asking self.now question)) }
+        ensures clauses { IfOk result (λ own. own.clauses ≡ asked_clauses (places_of self.now.pair) (self.now.frames * places_of self.now.pair) (Some question)) }
+        ensures pair { IsSoundPair self.now.pair }
+        ensures fine { IsUnrolling (asking self.now question) }
+    {
+        let Question { a, b, first, count } = question;
+        let product = self.product;
+        let n = product.len();
+        let used = self.count * n;
+        let mut own = Cnf::new(alloc, used + count)?;
+        add_asked(alloc, &mut own, n, used, a, b, first, count)?;
+        Ok(own)
+    }
+
+    // What a row that satisfies the frames and a question shows.
+    fn seen_in(&self, alloc: Global, row: &BitRow, question: Question) -> Result<Seen, AllocError>
+        requires asked { AreFramesOf self.now.frames self.now.pair (Some question) }
+        requires size { length row.now ≡ variables_of (asking self.now question) }
+        requires satisfied { satisfies row.now (clauses_of (asking self.now question)) ≡ true }
+        ensures { IfOk result (IsSeen self.now question) }
+    {
+        let product = self.product;
+        let n = product.len();
+        let path = read_path(alloc, product, row, self.count)?;
+        let frame = frame_of(row, n, question);
+        let bits = part_of(alloc, row, frame * n, n)?;
+        Ok(Seen { path, frame, bits })
+    }
+}
+
+// The first frame of those asked in which the literals differ, where there are n places a frame.
+fn frame_of(row: &BitRow, n: u32, question: Question) -> u32
+    requires left { question.a / 2 < n }
+    requires right { question.b / 2 < n }
+    requires within { (question.first + question.count) * n ≤ length row.now }
+    requires room { (question.first + question.count) * n < 4294967296 }
+    requires frames { question.first + question.count < 4294967296 }
+    requires one { (i : ℕ) × (i < question.count) × DiffersIn n row.now (question.first + i) question.a question.b }
+    ensures from { question.first ≤ result }
+    ensures to { result < question.first + question.count }
+    ensures apart { DiffersIn n row.now result question.a question.b }
+    ensures before { (t : ℕ) → question.first ≤ t → t < result → EqualIn n row.now t question.a question.b }
+{
+    let Question { a, b, first, count } = question;
+    for i in 0..count {
+        let t = first + i;
+        if differ(value_at(row, t, t * n, n, a), value_at(row, t, t * n, n, b)) {
+            return t;
+        }
+    }
+    unreachable!()
+}
+
+// A literal's value in frame t, whose bits begin at `base`.
+fn value_at(row: &BitRow, t: u32, base: u32, n: u32, lit: Lit) -> bool
+    requires base { base ≡ t * n }
+    requires within { base + lit / 2 < length row.now }
+    requires room { base + lit / 2 < 4294967296 }
+    ensures { result ≡ literal_value (values row.now n t) lit }
+{
+    let value = row.get(base + lit.var());
+    if lit.complement() { !value } else { value }
+}
+
+// Whether two values differ.
+fn differ(x: bool, y: bool) -> bool
+    ensures yes { result ≡ true → x ≡ not y }
+    ensures no { result ≡ false → x ≡ y }
+{
+    x != y
+}
