@@ -2,7 +2,7 @@
 //! both. It tells the least frame of a path in which two literals differ, or gives a log that there is no such path.
 ghost use Rattle.std.specs.Prelude.{◌≡◌, ◌<◌, ◌≤◌, ◌+◌, ◌*◌, ◌/◌, ℕ, true, false, not, length, IfOk, None, Some};
 ghost use Rattle.circ_model.specs.Correspondence.{IsLiteral};
-ghost use Rattle.circ_model.specs.Meaning.{IsSoundPair, places_of, literal_value};
+ghost use Rattle.circ_model.specs.Meaning.{IsSoundPair, places_of, literal_value, bit};
 ghost use Rattle.cnf_store.specs.Clauses.{satisfies};
 ghost use Rattle.frame_unroll.specs.Found.{IsSeen, IsFound, asks, asking, EqualIn, DiffersIn};
 ghost use Rattle.frame_unroll.specs.Frames.{values};
@@ -40,8 +40,8 @@ pub enum Found {
 }
 
 impl<'p> Unrolled<'p> {
-    /// Whether two literals differ, in some of the frames first to last, on some path that the frames ask for. The frames
-    /// stay as they are.
+    /// Whether two literals differ, in some of the frames first to last, on some path that the frames ask for: counted from 0,
+    /// both included. It tells the first of those frames in which they do. An `Err` is want of memory.
     pub fn find(
         &self,
         alloc: Global,
@@ -65,7 +65,8 @@ impl<'p> Unrolled<'p> {
             count: last - first + 1,
         };
         let own = self.beside(alloc, question)?;
-        match solve_with(alloc, self.cnf(), &own)? {
+        let frames = self.cnf();
+        match solve_with(alloc, frames, &own)? {
             Answer::Unsat(log) => Ok(Found::None(log)),
             Answer::Sat(row) => Ok(Found::Path(self.seen_in(alloc, &row, question)?)),
         }
@@ -99,9 +100,19 @@ impl<'p> Unrolled<'p> {
         let n = product.len();
         let path = read_path(alloc, product, row, self.count)?;
         let frame = frame_of(row, n, question);
-        let bits = part_of(alloc, row, frame * n, n)?;
+        let bits = row_of_frame(alloc, row, n, frame)?;
         Ok(Seen { path, frame, bits })
     }
+}
+
+// The row of a frame, where there are n places a frame.
+fn row_of_frame(alloc: Global, row: &BitRow, n: u32, t: u32) -> Result<BitRow, AllocError>
+    requires within { t * n + n ≤ length row.now }
+    requires room { t * n + n < 4294967296 }
+    ensures size { IfOk result (λ r. length r ≡ n) }
+    ensures bits { IfOk result (λ r. (p : ℕ) → p < n → bit r p ≡ values row.now n t p) }
+{
+    part_of(alloc, row, t * n, n)
 }
 
 // The first frame of those asked in which the literals differ, where there are n places a frame.

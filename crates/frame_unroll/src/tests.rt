@@ -1,10 +1,11 @@
-//! Two toggling latches as a pair: the numbers of their clauses and variables, and the path of a row that satisfies them.
+//! Two toggling latches as a pair: the numbers of their clauses and variables, the path of a row that satisfies them, and
+//! what questions over their frames come to.
 ghost use Rattle.std.specs.Prelude.{◌≡◌, ◌<◌, ◌≤◌, IsTrue, None, true, length};
 ghost use Rattle.circ_model.specs.Correspondence.{IsLiteral};
 ghost use Rattle.circ_model.specs.Meaning.{places_of};
 ghost use Rattle.cnf_store.specs.Clauses.{IsLiteral as IsVariable, AreLiterals, literal_true, clause_true, satisfies};
 
-use crate::Unrolled;
+use crate::{Found, Unrolled};
 use aig_graph::{BuildFault, NetBuilder, Netlist};
 use bit_rows::BitRow;
 use circ_model::Lit;
@@ -175,6 +176,97 @@ fn worked(alloc: Global, product: &Product) -> Result<bool, AllocError> {
         Some(path) => Ok(sizes && is_quiet(&path)),
         None => Ok(false),
     }
+}
+
+// Whether a row of at most 32 bits is that of a number, lowest first.
+fn has_bits(row: &BitRow, bits: u32) -> bool {
+    if row.len() > 32 {
+        return false;
+    }
+    for i in 0..row.len() {
+        if row.get(i) != ((bits >> i) & 1 == 1) {
+            return false;
+        }
+    }
+    true
+}
+
+// Two literals, the first and the last frame in which they may differ, and the first frame in which they do with its row.
+type Row = (Lit, Lit, u32, u32, Option<(u32, u32)>);
+
+// Whether a question over so many frames comes to what its row says.
+fn comes_out(alloc: Global, frames: &Unrolled<'_>, count: u32, row: Row) -> Result<bool, AllocError>
+    requires none { frames.now.asked ≡ None }
+    requires places { places_of frames.now.pair ≡ 3 }
+    requires frames { frames.now.frames ≡ count }
+{
+    let (a, b, first, last, seen) = row;
+    if a.var() >= 3 || b.var() >= 3 || first > last || last >= count {
+        return Ok(false);
+    }
+    match (frames.find(alloc, a, b, first, last)?, seen) {
+        (Found::None(log), None) => Ok(log.len() > 0),
+        (Found::Path(at), Some((frame, bits))) => Ok(at.frame == frame && has_bits(&at.bits, bits)),
+        _ => Ok(false),
+    }
+}
+
+// Whether three frames from reset answer as they must: both latches are low, then high, then low.
+fn reset_answers(alloc: Global, product: &Product) -> Result<bool, AllocError>
+    requires { places_of product.now ≡ 3 }
+{
+    let frames = Unrolled::reset_frames(alloc, product, 3)?;
+    let (low, left, right) = (Lit::of(0, false), Lit::of(1, false), Lit::of(2, false));
+    for row in [
+        (left, right, 0, 2, None),
+        (left, right.not(), 0, 2, Some((0, 0b000))),
+        (low, left, 0, 2, Some((1, 0b110))),
+        (low, left, 0, 0, None),
+        (low, right, 2, 2, None),
+        (low, right.not(), 1, 2, Some((2, 0b000))),
+    ] {
+        if !comes_out(alloc, &frames, 3, row)? {
+            return Ok(false);
+        }
+    }
+    Ok(true)
+}
+
+// Whether a frame from any state in which the latches are equal, and the next, answer as they must.
+fn step_answers(alloc: Global, product: &Product) -> Result<bool, AllocError>
+    requires { places_of product.now ≡ 3 }
+{
+    let classes = two_classes(alloc)?;
+    if classes.len() != 3 {
+        return Ok(false);
+    }
+    let frames = Unrolled::step_frames(alloc, product, 1, &classes)?;
+    let (low, left, right) = (Lit::of(0, false), Lit::of(1, false), Lit::of(2, false));
+    for row in [
+        (left, right, 0, 1, None),
+        (low, left, 0, 0, Some((0, 0b110))),
+        (low, right, 1, 1, Some((1, 0b110))),
+    ] {
+        if !comes_out(alloc, &frames, 2, row)? {
+            return Ok(false);
+        }
+    }
+    Ok(true)
+}
+
+#[test]
+fn questions_over_frames_of_two_toggling_latches(rt: HostRuntime) -> Result<(), Fail> {
+    let alloc = rt.alloc();
+    match two_toggles(alloc) {
+        Ok(product) => {
+            assert!(rt; product.len() == 3);
+            if product.len() == 3 {
+                assert!(rt; reset_answers(alloc, &product)? && step_answers(alloc, &product)?);
+            }
+        }
+        Err(_) => assert!(rt; false),
+    }
+    Ok(())
 }
 
 #[test]

@@ -25,12 +25,12 @@ use std::marker::Model;
 #[derive(Drop)]
 pub struct Unrolled<'p> {
     pub(crate) product: &'p Product,
-    pub(crate) cnf: Cnf,
-    pub(crate) plain: u64,
-    pub(crate) reset: bool,
+    cnf: Cnf,
+    plain: u64,
+    reset: bool,
     pub(crate) count: u32,
-    pub(crate) pairs: Vec<(Lit, Lit)>,
-    pub(crate) question: Option<Question>,
+    pairs: Vec<(Lit, Lit)>,
+    question: Option<Question>,
 }
 
 impl<'p> Model for Unrolled<'p> {
