@@ -13,8 +13,8 @@ use Rattle.aiger_text.proofs.Cells.{HasCells, cells_items, no_cells, may_be_give
 use Rattle.aiger_text.proofs.Bodies.{taken, whole}
 use Rattle.aiger_binary.specs.Binary.{of_inputs, latch_at, gate_at, each_from, binary_at}
 use Rattle.aiger_binary.specs.Grammar.{SpellsLatch, SpellsGate, SpellsBinary, IsBinary}
-use Rattle.aiger_binary.proofs.Items.{latch_take, gate_take}
-use Rattle.aiger_binary.proofs.Takes.{each_take}
+use Rattle.aiger_binary.proofs.Items.{latch_take, gate_take, gate_adds}
+use Rattle.aiger_binary.proofs.Takes.{each_take, each_adds}
 use Rattle.aiger_binary.proofs.Fresh.{Below, may_inputs}
 
 -- ---- the inputs
@@ -55,7 +55,21 @@ keep_outputs bytes n v u t e =
 
 -- ---- the whole
 
-pub binary_take : (h : Header) (bytes : List ℕ) (t : Netlist × ℕ) → h.m ≤ 1000000 → h.o ≤ 1000000 → h.i + h.l + h.a ≤ h.m → ((i : ℕ) → get_or bytes i 0 < 256) → binary_at h bytes ≡ Ok t → IsBinary h bytes t.0 t.1 × HasCells t.0
+pub binary_cells : (h : Header) (bytes : List ℕ) (t : Netlist × ℕ) → h.m ≤ 1000000 → h.o ≤ 1000000 → h.i + h.l + h.a ≤ h.m → binary_at h bytes ≡ Ok t → HasCells t.0
+unfolding binary_at
+binary_cells h bytes t small few sections e =
+    let start : Netlist = of_inputs h.m h.i in
+    let a = bind_is (each_from (latch_at bytes) h.l (h.i + 1) (start, h.end)) _ t e in
+    let b = bind_is (items_at Outputs h.o bytes a.0) _ t a.2 in
+    let l = each_take Latches bytes (latch_at bytes) SpellsLatch (latch_take bytes) h.l (h.i + 1) (start, h.end) a.0 a.1 in
+    let o = taken Outputs bytes a.0.0 a.0.1 h.o b.0 b.1 in
+    let q = each_adds Gates (gate_at bytes) (gate_adds bytes) h.a (h.i + 1 + h.l) b.0 t b.2 in
+    let room : length a.0.0.outputs + length o.items ≤ 1000000 = let z = ap length (keep_outputs bytes h.l (h.i + 1) (start, h.end) a.0 a.1) in omega (arith, o.count) in
+    let ca : HasCells a.0.0 = subst HasCells l.is (cells_items Latches l.items start l.may tt (inputs_cells h.m h.i small (omega arith))) in
+    let cb : HasCells b.0.0 = subst HasCells o.is (cells_items Outputs o.items a.0.0 o.may room ca) in
+    subst HasCells q.2 (cells_items Gates q.0 b.0.0 q.1 tt cb)
+
+pub binary_take : (h : Header) (bytes : List ℕ) (t : Netlist × ℕ) → h.m ≤ 1000000 → h.o ≤ 1000000 → h.i + h.l + h.a ≤ h.m → ((i : ℕ) → get_or bytes i 0 < 256) → binary_at h bytes ≡ Ok t → IsBinary h bytes t.0 t.1
 unfolding binary_at
 binary_take h bytes t small few sections byte e =
     let start : Netlist = of_inputs h.m h.i in
@@ -68,11 +82,7 @@ binary_take h bytes t small few sections byte e =
     let lb : whole h.m is l.items [] [] ≡ a.0.0 = sym (latches_given l.items start) ∙ l.is in
     let oc : whole h.m is l.items o.items [] ≡ b.0.0 = ap (λ (x : Netlist). record x { outputs = x.outputs ++ o.items }) lb ∙ sym (outputs_given o.items a.0.0) ∙ o.is in
     let qt : whole h.m is l.items o.items q.items ≡ t.0 = ap (λ (x : Netlist). record x { gates = x.gates ++ q.items }) oc ∙ sym (gates_given q.items b.0.0) ∙ q.is in
-    let room : length a.0.0.outputs + length o.items ≤ 1000000 = let z = ap (λ (x : Netlist). length x.outputs) lb in omega (arith, o.count) in
-    let ca : HasCells a.0.0 = subst HasCells l.is (cells_items Latches l.items start l.may tt (inputs_cells h.m h.i small (omega arith))) in
-    let cb : HasCells b.0.0 = subst HasCells o.is (cells_items Outputs o.items a.0.0 o.may room ca) in
-    let ct : HasCells t.0 = subst HasCells q.is (cells_items Gates q.items b.0.0 q.may tt cb) in
-    let may = may_be_given (whole h.m is l.items o.items q.items) (subst HasCells (sym qt) ct) in
+    let may = may_be_given (whole h.m is l.items o.items q.items) (subst HasCells (sym qt) (binary_cells h bytes t small few sections e)) in
     let parts : SpellsBinary h (l.text ++ (o.text ++ q.text)) (whole h.m is l.items o.items q.items) = record {
       latches = l.text;
       outputs = o.text;
@@ -94,7 +104,7 @@ binary_take h bytes t small few sections byte e =
     let s1 : drop a.0.1 bytes ≡ (o.text ++ q.text) ++ rest = o.stands ∙ ap (λ (x : List ℕ). o.text ++ x) s2 ∙ sym (append_assoc o.text q.text rest) in
     let s0 : drop h.end bytes ≡ (l.text ++ (o.text ++ q.text)) ++ rest = l.stands ∙ ap (λ (x : List ℕ). l.text ++ x) s1 ∙ sym (append_assoc l.text (o.text ++ q.text) rest) in
     let len : t.1 ≡ h.end + length (l.text ++ (o.text ++ q.text)) = omega (arith, l.end, o.end, q.end, length-append l.text (o.text ++ q.text), length-append o.text q.text) in
-    ((l.text ++ (o.text ++ q.text), subst (SpellsBinary h (l.text ++ (o.text ++ q.text))) qt parts, s0, len), ct)
+    (l.text ++ (o.text ++ q.text), subst (SpellsBinary h (l.text ++ (o.text ++ q.text))) qt parts, s0, len)
 
 -- section after section
 pub sections_read : (h : Header) (bytes : List ℕ) (g : Netlist) (a b t : Netlist × ℕ) → h.m ≤ 1000000 → h.o ≤ 1000000 → h.i + h.l + h.a ≤ h.m → ((i : ℕ) → get_or bytes i 0 < 256) → g ≡ of_inputs h.m h.i
@@ -102,4 +112,4 @@ pub sections_read : (h : Header) (bytes : List ℕ) (g : Netlist) (a b t : Netli
 unfolding binary_at
 sections_read h bytes g a b t small few sections byte start p q r =
     let first : each_from (latch_at bytes) h.l (h.i + 1) (of_inputs h.m h.i, h.end) ≡ Ok a = subst (λ (x : Netlist). each_from (latch_at bytes) h.l (h.i + 1) (x, h.end) ≡ Ok a) start p in
-    (binary_take h bytes t small few sections byte (rw (first, q) r)).0
+    binary_take h bytes t small few sections byte (rw (first, q) r)

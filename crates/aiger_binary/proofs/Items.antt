@@ -1,5 +1,5 @@
 -- One item: what was read of it is spelled so and may be added, and what is spelled so and may be added is read.
-use Rattle.std.proofs.Common.{◌≡◌, ◌≢◌, ◌∙◌, ℕ, ◌+◌, ◌-◌, ◌*◌, ◌/◌, ◌%◌, ◌^◌, ◌<◌, Bool, true, false, cond, ◌||◌, eqb, ltb, List, [], ◌∷◌, ◌++◌, length, drop, get_or, Result, Ok, Err, refl, sym, ap, arith, append_assoc, length-append}
+use Rattle.std.proofs.Common.{◌≡◌, ◌≢◌, ◌∙◌, ℕ, ◌+◌, ◌-◌, ◌*◌, ◌/◌, ◌%◌, ◌^◌, ◌<◌, ◌≤◌, Bool, true, false, cond, ◌||◌, eqb, ltb, List, [], ◌∷◌, ◌++◌, length, drop, get_or, Result, Ok, Err, refl, sym, ap, arith, append_assoc, length-append}
 use Rattle.std.proofs.lemmas.Bool.{eq-eqb, ne_eqb, ltb-false, le-ltb}
 use Rattle.std.proofs.lemmas.List.{drop-drop}
 use Rattle.std.proofs.Math.Seq.{drop-append_seam}
@@ -90,9 +90,21 @@ not_eq a b e is = let h = eq-eqb a b is in absurd (both (eqb a b) h e)
     both : (c : Bool) → c ≡ true → c ≡ false → ⊥
     both c x y = absurd cc
 
-pub gate_take : (bytes : List ℕ) (v : ℕ) (s t : Netlist × ℕ) → ((i : ℕ) → get_or bytes i 0 < 256) → gate_at bytes v s ≡ Ok t → One Gates bytes (SpellsGate v) s.0 s.1 t
+-- the two numbers of a gate that was read
+record Numbers (bytes : List ℕ) (v : ℕ) (s t : Netlist × ℕ) : Type 0 where
+  first : ℕ × ℕ
+  second : ℕ × ℕ
+  first_is : delta_at bytes s.1 ≡ Value first.0 first.1
+  second_is : delta_at bytes first.1 ≡ Value second.0 second.1
+  some : 0 < first.0
+  below : first.0 + second.0 ≤ 2 * v
+  given : Netlist
+  adds : added Gates s.0 (2 * v ∷ (2 * v - first.0) ∷ (2 * v - first.0 - second.0) ∷ []) ≡ Ok given
+  is : t ≡ (given, second.1)
+
+gate_numbers : (bytes : List ℕ) (v : ℕ) (s t : Netlist × ℕ) → gate_at bytes v s ≡ Ok t → Numbers bytes v s t
 unfolding gate_at
-gate_take bytes v s t small e =
+gate_numbers bytes v s t e =
     let a = bind_is (taken s.1 (delta_at bytes s.1)) _ t e in
     let b = bind_is (taken s.1 (delta_at bytes a.0.1)) _ t a.2 in
     let d : ℕ = a.0.0 in
@@ -104,11 +116,31 @@ gate_take bytes v s t small e =
     let most = ltb-false _ _ m.1 in
     let least = ltb-false _ _ n.1 in
     let p = placed_is s.1 b.0.1 (with_gate s.0 v (2 * v - d) (2 * v - d - k)) t c.1 in
-    let x = item_adds Gates s.0 p.0 (2 * v ∷ (2 * v - d) ∷ (2 * v - d - k) ∷ []) (gate_same s.0 v (2 * v - d) (2 * v - d - k) ∙ p.1) in
-    let first = delta_spelled bytes s.1 d a.0.1 small (taken_is s.1 (delta_at bytes s.1) a.0 a.1) in
-    let second = delta_spelled bytes a.0.1 k b.0.1 small (taken_is s.1 (delta_at bytes a.0.1) b.0 b.1) in
-    let end : t.1 ≡ b.0.1 = ap (λ (y : Netlist × ℕ). y.1) p.2 in
-    let net : t.0 ≡ p.0 = ap (λ (y : Netlist × ℕ). y.0) p.2 in
+    record {
+      first = a.0;
+      second = b.0;
+      first_is = taken_is s.1 (delta_at bytes s.1) a.0 a.1;
+      second_is = taken_is s.1 (delta_at bytes a.0.1) b.0 b.1;
+      some = omega arith;
+      below = omega arith;
+      given = p.0;
+      adds = gate_same s.0 v (2 * v - d) (2 * v - d - k) ∙ p.1;
+      is = p.2;
+    }
+
+pub gate_adds : (bytes : List ℕ) (v : ℕ) (s t : Netlist × ℕ) → gate_at bytes v s ≡ Ok t → (x : Gate) × MayAdd Gates s.0 x × (with_item Gates s.0 x ≡ t.0)
+gate_adds bytes v s t e =
+    let r = gate_numbers bytes v s t e in
+    let x = item_adds Gates s.0 r.given (2 * v ∷ (2 * v - r.first.0) ∷ (2 * v - r.first.0 - r.second.0) ∷ []) r.adds in
+    (x.0, x.2, x.3 ∙ sym (ap (λ (y : Netlist × ℕ). y.0) r.is))
+
+pub gate_take : (bytes : List ℕ) (v : ℕ) (s t : Netlist × ℕ) → ((i : ℕ) → get_or bytes i 0 < 256) → gate_at bytes v s ≡ Ok t → One Gates bytes (SpellsGate v) s.0 s.1 t
+gate_take bytes v s t small e =
+    let r = gate_numbers bytes v s t e in
+    let x = item_adds Gates s.0 r.given (2 * v ∷ (2 * v - r.first.0) ∷ (2 * v - r.first.0 - r.second.0) ∷ []) r.adds in
+    let first = delta_spelled bytes s.1 r.first.0 r.first.1 small r.first_is in
+    let second = delta_spelled bytes r.first.1 r.second.0 r.second.1 small r.second_is in
+    let end : t.1 ≡ r.second.1 = ap (λ (y : Netlist × ℕ). y.1) r.is in
     record {
       item = x.0;
       text = first.0 ++ second.0;
@@ -116,21 +148,21 @@ gate_take bytes v s t small e =
         first = first.0;
         second = second.0;
         is = refl;
-        down = d;
-        further = k;
+        down = r.first.0;
+        further = r.second.0;
         first_number = first.1;
         second_number = second.1;
         first_short = first.3;
         second_short = second.3;
         var = let h = x.1.0 in omega arith;
-        below = omega arith;
-        left = let h = x.1.1 in omega arith;
-        right = let h = x.1.1 in let j = x.1.2 in omega arith;
+        below = r.some;
+        left = let h = x.1.1 in omega (arith, r.below);
+        right = let h = x.1.1 in let j = x.1.2 in omega (arith, r.below);
       };
-      stands = first.2.is ∙ ap (λ (l : List ℕ). first.0 ++ l) second.2.is ∙ sym (append_assoc first.0 second.0 (drop b.0.1 bytes)) ∙ ap (λ (j : ℕ). (first.0 ++ second.0) ++ drop j bytes) (sym end);
+      stands = first.2.is ∙ ap (λ (l : List ℕ). first.0 ++ l) second.2.is ∙ sym (append_assoc first.0 second.0 (drop r.second.1 bytes)) ∙ ap (λ (j : ℕ). (first.0 ++ second.0) ++ drop j bytes) (sym end);
       end = omega (arith, end, first.2.ends, second.2.ends, length-append first.0 second.0);
       may = x.2;
-      is = x.3 ∙ sym net;
+      is = x.3 ∙ sym (ap (λ (y : Netlist × ℕ). y.0) r.is);
     }
 
 -- ---- what is spelled is read

@@ -42,6 +42,17 @@ each_take s bytes item P one (suc n) v u t e =
       is = ap (λ (g : Netlist). with_items s g others.items) x.is ∙ others.is;
     }
 
+-- the same, of what was given alone
+pub each_adds : (s : Section) (item : ℕ → Netlist × ℕ → Result (Netlist × ℕ) NetFault) → ((v : ℕ) (u t : Netlist × ℕ) → item v u ≡ Ok t → (x : Item s) × MayAdd s u.0 x × (with_item s u.0 x ≡ t.0))
+    → (n v : ℕ) (u t : Netlist × ℕ) → each_from item n v u ≡ Ok t → (xs : List (Item s)) × MayAll s u.0 xs × (with_items s u.0 xs ≡ t.0)
+unfolding each_from
+each_adds s item one zero v u t e = let is : u ≡ t = cc in ([], tt, ap (λ (x : Netlist × ℕ). x.0) is)
+each_adds s item one (suc n) v u t e =
+    let a = bind_is (item v u) (each_from item n (v + 1)) t e in
+    let x = one v u a.0 a.1 in
+    let others = each_adds s item one n (v + 1) a.0 t a.2 in
+    (x.0 ∷ others.0, (x.1, subst (λ (g : Netlist). MayAll s g others.0) (sym x.2) others.1), ap (λ (g : Netlist). with_items s g others.0) x.2 ∙ others.2)
+
 pub each_again : (s : Section) (bytes : List ℕ) (item : ℕ → Netlist × ℕ → Result (Netlist × ℕ) NetFault) (P : ℕ → List ℕ → Item s → Type 0) (top : ℕ)
     → ((v : ℕ) (g : Netlist) (at : ℕ) (x : Item s) (text rest : List ℕ) → v ≤ top → P v text x → drop at bytes ≡ text ++ rest → MayAdd s g x → item v (g, at) ≡ Ok (with_item s g x, at + length text))
     → (xs : List (Item s)) (v : ℕ) (g : Netlist) (at : ℕ) (text rest : List ℕ) → v + length xs ≤ top + 1 → SpellsEach P v text xs → drop at bytes ≡ text ++ rest → MayAll s g xs → each_from item (length xs) v (g, at) ≡ Ok (with_items s g xs, at + length text)
