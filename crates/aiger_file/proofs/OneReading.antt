@@ -18,7 +18,8 @@ use Rattle.aiger_text.proofs.Lines.{items_take}
 use Rattle.aiger_text.proofs.Items.{all_add}
 use Rattle.aiger_text.proofs.Cells.{HasCells, cells_items, no_cells}
 use Rattle.aiger_text.proofs.Bodies.{same_length}
-use Rattle.aiger_file.specs.Files.{as_text, after_symbols, given_at, IsWrong, IsNetlistFile, IsFirstFault}
+use Rattle.aiger_file.specs.Files.{in_form, after_symbols, given_at, IsWrong, IsNetlistFile, IsFirstFault}
+use Rattle.aiger_binary.proofs.Bodies.{binary_cells}
 use Rattle.aiger_file.proofs.OneNetlist.{one_netlist, none_undefined, finished_defined, finished_levelled}
 use Rattle.aiger_file.proofs.OneComes.{one_comes}
 
@@ -45,9 +46,9 @@ body_cells h bytes t small few e =
     let cc' = section_cells Outputs h.o bytes b.0 c.0 c.1 room cb in
     section_cells Gates h.a bytes c.0 t c.2 tt cc'
 
-text_is : (h t : Header) (b : Bool) → as_text h b ≡ Ok t → h ≡ t
-text_is h t true e = absurd cc
-text_is h t false e = cc
+form_cells : (b : Bool) (h : Header) (bytes : List ℕ) (t : Netlist × ℕ) → IsWithinLimits h → in_form b h bytes ≡ Ok t → HasCells t.0
+form_cells true h bytes t limits e = binary_cells h bytes t limits.variables limits.outputs limits.sections e
+form_cells false h bytes t limits e = body_cells h bytes t limits.variables limits.outputs e
 
 after_is : (g n : Netlist) (r : Result ℕ NetFault) → after_symbols g r ≡ Ok n → g ≡ n
 after_is g n (Ok end) e = cc
@@ -56,10 +57,8 @@ after_is g n (Err f) e = absurd cc
 given_cells : (bytes : List ℕ) (given : Netlist) → given_at bytes ≡ Ok given → HasCells given
 given_cells bytes given e =
     let h = bind_is (header_at bytes) _ given e in
-    let t = bind_is (as_text h.0 h.0.binary) _ given h.2 in
-    let s = bind_is (body_at t.0 bytes) _ given t.2 in
-    let limits : IsWithinLimits t.0 = subst IsWithinLimits (text_is h.0 t.0 h.0.binary t.1) (header_spelled bytes h.0 h.1).1.limits in
-    subst HasCells (after_is s.0.0 given _ s.2) (body_cells t.0 bytes s.0 limits.variables limits.outputs s.1)
+    let s = bind_is (in_form h.0.binary h.0 bytes) _ given h.2 in
+    subst HasCells (after_is s.0.0 given _ s.2) (form_cells h.0.binary h.0 bytes s.0 (header_spelled bytes h.0 h.1).1.limits s.1)
 
 -- ---- one reading
 

@@ -12,14 +12,15 @@ use Rattle.aiger_codec.specs.declared.fault.NetError.TheVariants as errors
 use Rattle.aiger_codec.specs.declared.fault.NetKind.TheVariants as kinds
 use Rattle.aiger_codec.specs.declared.header.Header.{Header}
 use Rattle.aiger_codec.specs.declared.symbols.Counts.{Counts}
+use Rattle.aiger_binary.specs.Binary.{binary_at}
 
 abbrev pub counts_of : Header → Counts
 counts_of h = record { inputs = h.i; latches = h.l; outputs = h.o }
 
--- the body so far is text
-abbrev pub as_text : Header → Bool → Result Header NetFault
-as_text h true = Err (fault kinds.Header 0)
-as_text h false = Ok h
+-- the body, binary or text
+abbrev pub in_form : Bool → Header → List ℕ → Result (Netlist × ℕ) NetFault
+in_form true h bytes = binary_at h bytes
+in_form false h bytes = body_at h bytes
 
 -- the symbols after the body say nothing of the netlist
 abbrev pub after_symbols : Netlist → Result ℕ NetFault → Result Netlist NetFault
@@ -30,9 +31,8 @@ after_symbols given (Err e) = Err e
 abbrev pub given_at : List ℕ → Result Netlist NetFault
 given_at bytes = do
   h ← header_at bytes
-  t ← as_text h h.binary
-  s ← body_at t bytes
-  after_symbols s.0 (symbols_at (length bytes) (counts_of t) bytes s.1)
+  s ← in_form h.binary h bytes
+  after_symbols s.0 (symbols_at (length bytes) (counts_of h) bytes s.1)
 
 -- what is wrong with the whole: the least variable that is used and has no definition, else gates that wait for each other
 abbrev pub IsWrong : Netlist → NetFault → Type 0

@@ -1,14 +1,29 @@
 ghost use Rattle.std.specs.Prelude.{◌≡◌, Result};
 ghost use Rattle.aig_graph.specs.Finish.{Finishes};
-ghost use Rattle.aiger_file.specs.Files.{IsReading, counts_of, after_symbols, IsFinish};
+ghost use Rattle.aiger_codec.specs.Header.{IsWithinLimits};
+ghost use Rattle.aiger_codec.specs.Sections.{ReadsBody};
+ghost use Rattle.aiger_file.specs.Files.{IsReading, counts_of, in_form, after_symbols, IsFinish};
 
 use aig_graph::{BuildFault, NetBuilder, Netlist};
-use aiger_codec::{Counts, NetError, NetFault, NetKind, read_header, read_symbols};
+use aiger_binary::read_binary;
+use aiger_codec::{Counts, Header, NetError, NetFault, NetKind, read_header, read_symbols};
 use aiger_text::read_text;
 use std::alloc::Global;
 
-/// The netlist of a file, or its first fault in reading order. A use without a definition and gates that wait for each other
-/// come after the whole file, at byte 0. A binary body is refused as a header so far.
+// The body, in the form that the header says.
+fn read_body(alloc: Global, bytes: &[u8], header: &Header) -> Result<(NetBuilder, u64), NetError>
+    requires { IsWithinLimits header.now }
+    ensures { ReadsBody result (in_form header.now.binary header.now bytes.now) }
+{
+    if header.binary {
+        read_binary(alloc, bytes, header)
+    } else {
+        read_text(alloc, bytes, header)
+    }
+}
+
+/// The netlist of a file, text or binary, or its first fault in reading order. A use without a definition and gates that
+/// wait for each other come after the whole file, at byte 0.
 pub fn read_netlist(alloc: Global, bytes: &[u8]) -> Result<Netlist, NetError>
     ensures { IsReading bytes.now result }
 {
@@ -16,13 +31,7 @@ pub fn read_netlist(alloc: Global, bytes: &[u8]) -> Result<Netlist, NetError>
         Ok(header) => header,
         Err(fault) => return Err(NetError::Refused(fault)),
     };
-    if header.binary {
-        return Err(NetError::Refused(NetFault {
-            kind: NetKind::Header,
-            at: 0,
-        }));
-    }
-    let (builder, end) = match read_text(alloc, bytes, &header) {
+    let (builder, end) = match read_body(alloc, bytes, &header) {
         Ok(read) => read,
         Err(error) => return Err(error),
     };

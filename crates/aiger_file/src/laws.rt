@@ -10,8 +10,8 @@ pub fn one_reading()
     ensures never_both { NeverBoth }
 {}
 
-/// What is accepted is a text file of the format, and each text file of the format is accepted.
-pub fn text_files()
+/// What is accepted is a file of the format, text or binary, and each file of the format is accepted.
+pub fn spelled_files()
     ensures is_spelled { FileIsSpelled }
     ensures is_read { SpelledFileIsRead }
 {}

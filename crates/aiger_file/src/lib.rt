@@ -1,5 +1,5 @@
 //! Whole AIGER files. A file is read in one pass: its header, its body, symbol lines, and then the end or a comment; what
-//! has no definition and what waits for itself is told last, after the whole file. So far the body is text.
+//! has no definition and what waits for itself is told last, after the whole file. The body is text or binary.
 //! (The AIGER And-Inverter Graph format, Biere 2007, with the resets of AIGER 1.9.)
 #![tactic(auto)]
 
@@ -7,7 +7,7 @@ mod file;
 mod laws;
 
 pub use file::read_netlist;
-pub use laws::{one_reading, text_files};
+pub use laws::{one_reading, spelled_files};
 
 #[cfg(test)]
 mod tests;

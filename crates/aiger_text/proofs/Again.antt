@@ -138,7 +138,7 @@ gate_names (x ∷ xs) = ap (λ (l : List ℕ). x.var ∷ l) (gate_names xs)
 
 -- ---- sections, and the whole
 
-section_again : (s : Section) (bytes : List ℕ) (at n : ℕ) (text rest : List ℕ) (g h : Netlist) (xs : List (Item s)) → SpellsSection s text xs → MayAll s g xs → with_items s g xs ≡ h → length xs ≡ n → drop at bytes ≡ text ++ rest
+pub section_again : (s : Section) (bytes : List ℕ) (at n : ℕ) (text rest : List ℕ) (g h : Netlist) (xs : List (Item s)) → SpellsSection s text xs → MayAll s g xs → with_items s g xs ≡ h → length xs ≡ n → drop at bytes ≡ text ++ rest
     → items_at s n bytes (g, at) ≡ Ok (h, at + length text)
 section_again s bytes at n text rest g h xs spelled may is count stands =
     let adds = all_added s spelled.lines xs g spelled.each may ∙ ap (λ (x : Netlist). Ok x) is in

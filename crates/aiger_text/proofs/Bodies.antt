@@ -32,7 +32,7 @@ same_length P [] (x ∷ xs) z = absurd z
 same_length P (l ∷ lines) [] z = absurd z
 same_length P (l ∷ lines) (x ∷ xs) z = let h = same_length P lines xs z.1 in omega arith
 
-taken : (s : Section) (bytes : List ℕ) (g : Netlist) (at n : ℕ) (t : Netlist × ℕ) → items_at s n bytes (g, at) ≡ Ok t → Taken s bytes g at n t
+pub taken : (s : Section) (bytes : List ℕ) (g : Netlist) (at n : ℕ) (t : Netlist × ℕ) → items_at s n bytes (g, at) ≡ Ok t → Taken s bytes g at n t
 taken s bytes g at n t e =
     let r = items_take s n bytes (g, at) t e in
     let a = all_add s r.lines g t.0 r.adds in

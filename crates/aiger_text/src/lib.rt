@@ -8,3 +8,4 @@ mod section;
 mod tests;
 
 pub use body::{read_text, spelled_text_is_read};
+pub use section::{error_of, literal, read_items};

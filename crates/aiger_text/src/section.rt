@@ -9,8 +9,8 @@ use aig_graph::{BuildFault, NetBuilder};
 use aiger_codec::{NetError, NetFault, NetKind, Section, number_or_none, read_line};
 use circ_model::Lit;
 
-// A number of the line as a literal, or 0 where it has no more.
-fn literal(numbers: &[u32; 9], count: usize, place: usize) -> Lit
+/// A number of the line as a literal, or 0 where it has no more.
+pub fn literal(numbers: &[u32; 9], count: usize, place: usize) -> Lit
     requires { place < 9 }
     ensures { result ≡ slice_index (take count numbers.now) place }
 {
@@ -44,8 +44,8 @@ fn add(
     }
 }
 
-// Want of memory, or the fault of an item at this place.
-fn error_of(fault: BuildFault, at: u64) -> NetError
+/// Want of memory, or the fault of an item at this place.
+pub fn error_of(fault: BuildFault, at: u64) -> NetError
     ensures { IsErrorOf result fault at }
 {
     let kind = match fault {
