@@ -1,0 +1,4 @@
+pub mod Proving
+pub mod Beginning
+pub mod Splitting
+pub mod Rounds

@@ -1,0 +1,117 @@
+-- What the answers to a version's two questions say of a needed pair.
+use Rattle.std.proofs.Common.{◌≡◌, ◌∙◌, ◌<◌, ◌⊎◌, ◌+◌, ℕ, Bool, true, false, not, List, length, refl, ap, sym, subst, arith, inl, inr, ⊎_elim, true≢false}
+use Rattle.std.proofs.lemmas.List.Elements.{All-nil}
+use Rattle.circ_model.specs.Meaning.{Pair, Path, IsPath, IsRun, places_of, row_at, value_in}
+use Rattle.circ_model.specs.Correspondence.{HoldsIn, MaySplit, MaySplit.OfRun}
+use Rattle.circ_model.proofs.Rows.{length_row}
+use Rattle.class_partition.specs.Classes.{HoldIn, IsNeeded, Passes, needed}
+use Rattle.sat_log.specs.Derivations.{Line}
+use Rattle.class_partition.proofs.Partition.{may_split_after}
+use Rattle.frame_unroll.specs.declared.found.Seen.{Seen}
+use Rattle.frame_unroll.specs.declared.found.Found.{Found}
+use Rattle.frame_unroll.specs.declared.found.Found.TheVariants as found
+use Rattle.frame_unroll.specs.Found.{IsFound, IsSeen, NoneSought}
+use Rattle.frame_unroll.proofs.Members.{members_to, members_from}
+use Rattle.verdict_stamp.specs.declared.prover.Proof.TheVariants.{Splits}
+use Rattle.verdict_stamp.specs.Proofs.{IsProof}
+use Rattle.verdict_stamp.specs.Versions.{Standing, IsVersion, Split, IsPassed, Separates, base_of, step_of, base_question, step_question}
+
+-- two bits are equal or complements, and not both
+same_or_not : (x y : Bool) → (x ≡ y) ⊎ (x ≡ not y)
+same_or_not true true = inl refl
+same_or_not true false = inr refl
+same_or_not false true = inr refl
+same_or_not false false = inl refl
+
+no_not : (b : Bool) → b ≡ not b → ⊥
+no_not true e = true≢false e
+no_not false e = true≢false (sym e)
+
+pub not_both : (bits : List Bool) (p : ℕ × ℕ) → HoldsIn bits p → Separates bits p → ⊥
+not_both bits p holds apart = no_not (value_in bits p.1) (sym holds ∙ apart)
+
+holds_unless : (bits : List Bool) (p : ℕ × ℕ) → (Separates bits p → ⊥) → HoldsIn bits p
+holds_unless bits p never = ⊎_elim (λ (h : HoldsIn bits p). h) (λ (s : Separates bits p). absurd (never s)) (same_or_not (value_in bits p.0) (value_in bits p.1))
+
+-- no run is sought: the pair holds in the first frames of each
+base_passes : (v : Standing) (m : ℕ) → NoneSought (base_of v) (base_question v m) → (run : Path) → IsRun v.pair run → length run.inputs ≡ v.k → (t : ℕ) → t < v.k → HoldsIn (row_at v.pair run t) (needed v.classes m)
+base_passes v m none run runs len t lt = holds_unless (row_at v.pair run t) (needed v.classes m) (λ apart. none run (record {
+  is_path = runs.is_path;
+  rows = len;
+  reset = λ from. runs;
+  classes = λ s less. All-nil (HoldsIn (row_at v.pair run s));
+  asked = (t, omega arith, let e : 0 + t ≡ t = omega arith in subst (λ (s : ℕ). Separates (row_at v.pair run s) (needed v.classes m)) (sym e) apart);
+}))
+
+-- no path is sought: the pair holds in frame k of each on which the classes hold before
+step_passes : (v : Standing) (m : ℕ) → NoneSought (step_of v) (step_question v m) → (path : Path) → IsPath v.pair path → length path.inputs ≡ v.k + 1
+    → ((t : ℕ) → t < v.k → HoldIn (places_of v.pair) v.classes (row_at v.pair path t)) → HoldsIn (row_at v.pair path v.k) (needed v.classes m)
+step_passes v m none path is len hold = holds_unless (row_at v.pair path v.k) (needed v.classes m) (λ apart. none path (record {
+  is_path = is;
+  rows = len;
+  reset = λ from. absurd (true≢false (sym from));
+  classes = λ t less. members_from (places_of v.pair) v.classes (row_at v.pair path t) (hold t (omega arith));
+  asked = (0, omega arith, let e : v.k + 0 ≡ v.k = omega arith in subst (λ (s : ℕ). Separates (row_at v.pair path s) (needed v.classes m)) (sym e) apart);
+}))
+
+pub passes : (v : Standing) (m : ℕ) → NoneSought (base_of v) (base_question v m) → NoneSought (step_of v) (step_question v m) → Passes v.pair v.k v.classes m
+passes v m base step = record { base = base_passes v m base; step = step_passes v m step }
+
+-- a row that splits a version's needed pair
+pub record IsSplitOf (v : Standing) (m : ℕ) (bits : List Bool) : Type 0 where
+  pub size : length bits ≡ places_of v.pair
+  pub may : MaySplit v.pair v.k bits
+  pub apart : Separates bits (needed v.classes m)
+  pub fails : Passes v.pair v.k v.classes m → ⊥
+
+-- a row that was seen in a frame of a run
+pub base_row : (v : Standing) (m : ℕ) (s : Seen) → IsVersion v → IsSeen (base_of v) (base_question v m) s → IsSplitOf v m s.bits
+base_row v m s is seen =
+    let to : s.frame < v.k = (let t = seen.to in let some = is.some in omega arith) in
+    let run : IsRun v.pair s.path = seen.sought.reset refl in
+    record {
+      size = ap length seen.row ∙ length_row v.pair s.path s.frame;
+      may = OfRun s.path s.frame run (let r = seen.sought.rows in omega arith) seen.row;
+      apart = seen.apart;
+      fails = λ pass. not_both (row_at v.pair s.path s.frame) (needed v.classes m) (pass.base s.path run seen.sought.rows s.frame to)
+          (subst (λ (r : List Bool). Separates r (needed v.classes m)) seen.row seen.apart);
+    }
+
+-- and in the last frame of a path on which the classes hold before
+pub step_row : (v : Standing) (m : ℕ) (s : Seen) → IsVersion v → IsSeen (step_of v) (step_question v m) s → IsSplitOf v m s.bits
+step_row v m s is seen =
+    let at : s.frame ≡ v.k = (let from = seen.from in let to = seen.to in omega arith) in
+    let row : s.bits ≡ row_at v.pair s.path v.k = seen.row ∙ ap (row_at v.pair s.path) at in
+    let hold : (t : ℕ) → t < v.k → HoldIn (places_of v.pair) v.classes (row_at v.pair s.path t)
+    = λ t lt. members_to (places_of v.pair) v.classes (row_at v.pair s.path t) (seen.sought.classes t (omega arith)) in
+    record {
+      size = ap length row ∙ length_row v.pair s.path v.k;
+      may = subst (MaySplit v.pair v.k) (sym row) (may_split_after v.pair v.k v.classes s.path is.keeps seen.sought.is_path (let r = seen.sought.rows in omega arith) hold);
+      apart = seen.apart;
+      fails = λ pass. not_both (row_at v.pair s.path v.k) (needed v.classes m) (pass.step s.path seen.sought.is_path seen.sought.rows hold)
+          (subst (λ (r : List Bool). Separates r (needed v.classes m)) row seen.apart);
+    }
+
+-- from what was found to what is answered
+pub base_found : (v : Standing) (m : ℕ) (f : Found) (s : Seen) → IsVersion v → f ≡ found.Path s → IsFound (base_of v) (base_question v m) f → IsSplitOf v m s.bits
+base_found v m f s is e h = base_row v m s is (subst (IsFound (base_of v) (base_question v m)) e h)
+
+pub step_found : (v : Standing) (m : ℕ) (f : Found) (s : Seen) → IsVersion v → f ≡ found.Path s → IsFound (step_of v) (step_question v m) f → IsSplitOf v m s.bits
+step_found v m f s is e h = step_row v m s is (subst (IsFound (step_of v) (step_question v m)) e h)
+
+pub splits : (v : Standing) (m : ℕ) (x : Split) (pair : Pair) (k : ℕ) (bits : List Bool) → pair ≡ v.pair → k ≡ v.k → x ≡ record { pair = pair; k = k; bits = bits } → IsSplitOf v m bits → IsProof v m (Splits x)
+splits v m x pair k bits ep ek ex s = subst (λ (z : Split). IsProof v m (Splits z)) (sym ex) (ep, ek, s.apart, s.may, s.fails)
+
+pub passed : (v : Standing) (m : ℕ) (f g : Found) (base step : List Line) → f ≡ found.None base → g ≡ found.None step → IsFound (base_of v) (base_question v m) f → IsFound (step_of v) (step_question v m) g
+    → IsNeeded (places_of v.pair) v.classes m → IsPassed (record { version = v; member = m; base_log = base; step_log = step })
+passed v m f g base step ef eg hf hg need =
+    let b = subst (IsFound (base_of v) (base_question v m)) ef hf in
+    let s = subst (IsFound (step_of v) (step_question v m)) eg hg in
+    record { is_needed = need; passes = passes v m b.0 s.0; base = b.1; step = s.1 }
+
+-- the accessors' product and k are the version's
+pub version_is : (v w : Standing) (pair : Pair) (k : ℕ) → w ≡ v → pair ≡ w.pair → k ≡ w.k → IsVersion w → (pair ≡ v.pair) × (k ≡ v.k) × IsVersion v
+version_is v w pair k e ep ek is = (ep ∙ ap (λ (z : Standing). z.pair) e, ek ∙ ap (λ (z : Standing). z.k) e, subst IsVersion e is)
+
+pub may_by : (v : Standing) (pair : Pair) (k : ℕ) (bits : List Bool) → pair ≡ v.pair → k ≡ v.k → MaySplit v.pair v.k bits → MaySplit pair k bits
+may_by v pair k bits ep ek may = subst (λ (n : ℕ). MaySplit pair n bits) (sym ek) (subst (λ (p : Pair). MaySplit p v.k bits) (sym ep) may)

@@ -1,0 +1,5 @@
+use Rattle.verdict_stamp.proofs.Rounds.{IsRound}
+use Rattle.verdict_stamp.proofs.refine.round.Given as goal
+
+abbrev pub invariant-loop-member : goal.invariant-loop-member
+invariant-loop-member l = IsRound l.fn.version l.next l.added l.member

@@ -1,0 +1,78 @@
+-- Versions of the classes, the rows that split them, and the needed pairs that passed under one.
+use Rattle.std.specs.Prelude.{◌≡◌, ℕ, ◌-◌, ◌<◌, ◌≤◌, List, length, Bool, not}
+use Rattle.circ_model.specs.Meaning.{Pair, places_of, value_in}
+use Rattle.circ_model.specs.Runs.{phases}
+use Rattle.circ_model.specs.Correspondence.{MaySplit}
+use Rattle.class_partition.specs.Classes.{Classes, ArePartition, IsNeeded, KeepsGreatest, Passes, class_count, needed, one_class}
+use Rattle.sat_log.specs.Derivations.{Line, IsAccepted}
+use Rattle.frame_unroll.specs.declared.question.Question.{Question}
+use Rattle.frame_unroll.specs.Unrolled.{Unrolling, after_classes, formula_of, from_reset}
+use Rattle.frame_unroll.specs.Found.{asking, asks}
+
+-- classes of a pair's places, for induction over k frames, and how many splits they went through
+pub record Standing : Type 0 where
+  pub pair : Pair
+  pub k : ℕ
+  pub classes : Classes
+  pub number : ℕ
+
+-- classes by the phases that separate no pair of the greatest correspondence; each split added a class at least
+pub record IsVersion (v : Standing) : Type 0 where
+  pub some : 0 < v.k
+  pub few : v.k ≤ 16
+  pub partition : ArePartition (places_of v.pair) v.classes
+  pub phased : v.classes.phase ≡ phases v.pair
+  pub keeps : KeepsGreatest v.pair v.k v.classes
+  pub below : v.number < class_count (places_of v.pair) v.classes
+
+-- one class of all places
+abbrev pub first_version : Pair → ℕ → Standing
+first_version pair k = record { pair = pair; k = k; classes = one_class (phases pair); number = 0 }
+
+-- a row of a pair's places, found by questions over k frames
+pub record Split : Type 0 where
+  pub pair : Pair
+  pub k : ℕ
+  pub bits : List Bool
+
+-- it separates no pair of the greatest correspondence
+pub record IsVector (x : Split) : Type 0 where
+  pub size : length x.bits ≡ places_of x.pair
+  pub may : MaySplit x.pair x.k x.bits
+
+-- two literals differ in a row
+abbrev pub Separates : List Bool → ℕ × ℕ → Type 0
+Separates bits p = value_in bits p.0 ≡ not (value_in bits p.1)
+
+-- the frames of a version's two questions: k from reset, and k + 1 from any state, in all but the last of which its classes hold
+abbrev pub base_of : Standing → Unrolling
+base_of v = from_reset v.pair v.k
+
+abbrev pub step_of : Standing → Unrolling
+step_of v = after_classes v.pair v.k v.classes
+
+-- and the questions of a place and its class's least place: whether they differ in some frame from reset, or in the last frame
+abbrev pub base_question : Standing → ℕ → Question
+base_question v m = asks (needed v.classes m).0 (needed v.classes m).1 0 (v.k - 1)
+
+abbrev pub step_question : Standing → ℕ → Question
+step_question v m = asks (needed v.classes m).0 (needed v.classes m).1 v.k v.k
+
+-- a place that passed under a version, and the logs of the two questions
+pub record Passed : Type 0 where
+  pub version : Standing
+  pub member : ℕ
+  pub base_log : List Line
+  pub step_log : List Line
+
+pub record IsPassed (w : Passed) : Type 0 where
+  pub is_needed : IsNeeded (places_of w.version.pair) w.version.classes w.member
+  pub passes : Passes w.version.pair w.version.k w.version.classes w.member
+  pub base : IsAccepted (formula_of (asking (base_of w.version) (base_question w.version w.member))) w.base_log
+  pub step : IsAccepted (formula_of (asking (step_of w.version) (step_question w.version w.member))) w.step_log
+
+-- the frames are those of the version
+pub record IsProver (v : Standing) (base step : Unrolling) : Type 0 where
+  pub version : IsVersion v
+  pub base_is : base ≡ base_of v
+  pub step_is : step ≡ step_of v

@@ -1,0 +1,16 @@
+//! Versions of the classes on the way to the greatest correspondence, the proofs and vectors that are found under one of
+//! them, and the loop that ends at the greatest. (Signal correspondence: van Eijk, IEEE TCAD 19(7), 2000; by k-induction:
+//! Sheeran, Singh, Stålmarck, FMCAD 2000.)
+#![tactic(auto)]
+
+mod prover;
+mod refine;
+mod vector;
+mod verdict;
+mod version;
+
+pub use prover::{Proof, Prover};
+pub use refine::greatest_classes;
+pub use vector::Vector;
+pub use verdict::Verdict;
+pub use version::Version;

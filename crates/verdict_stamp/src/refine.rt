@@ -1,0 +1,99 @@
+//! Partition refinement by rounds, on one thread: each needed pair of a version is proved, and its copy is split by every
+//! vector that is found; where none splits, the classes are those of the greatest correspondence.
+ghost use Rattle.std.specs.Prelude.{◌≡◌, ◌<◌, ◌≤◌, ◌+◌, ℕ, IfOk, OnOk};
+ghost use Rattle.circ_model.specs.Meaning.{places_of};
+ghost use Rattle.class_partition.specs.Classes.{AreOfGreatest, IsNeeded, Passes, class_count, least_of};
+
+use crate::prover::{Proof, Prover};
+use crate::version::Version;
+use class_partition::Needed;
+use product_machine::Product;
+use std::alloc::{AllocError, Global};
+
+// Proves a needed pair of the prover's version, and splits the copy where that fails. Answers how many classes that adds.
+fn prove_pair(
+    alloc: Global,
+    prover: &Prover<'_>,
+    pair: Needed,
+    next: &mut Version<'_>,
+) -> Result<u32, AllocError>
+    requires needed { IsNeeded (places_of prover.now.pair) prover.now.classes pair.member }
+    requires rep { pair.rep ≡ least_of prover.now.classes pair.member }
+    requires product { next.old.pair ≡ prover.now.pair }
+    requires k { next.old.k ≡ prover.now.k }
+    ensures product { next.new.pair ≡ prover.now.pair }
+    ensures k { next.new.k ≡ prover.now.k }
+    ensures count { IfOk result (λ added. class_count (places_of prover.now.pair) next.new.classes ≡ class_count (places_of prover.now.pair) next.old.classes + added) }
+    ensures none { IfOk result (λ added. added ≡ 0 → next.old.classes ≡ prover.now.classes
+        → (next.new.classes ≡ prover.now.classes) × Passes prover.now.pair prover.now.k prover.now.classes pair.member) }
+{
+    match prover.prove(alloc, pair)? {
+        Proof::Holds(_) => Ok(0),
+        Proof::Splits(vector) => Ok(next.split_by(&vector)),
+    }
+}
+
+// Proves a place's needed pair, unless it has none or the copy has it apart.
+fn prove_place(
+    alloc: Global,
+    prover: &Prover<'_>,
+    member: u32,
+    next: &mut Version<'_>,
+) -> Result<u32, AllocError>
+    requires place { member < places_of prover.now.pair }
+    requires product { next.old.pair ≡ prover.now.pair }
+    requires k { next.old.k ≡ prover.now.k }
+    ensures product { next.new.pair ≡ prover.now.pair }
+    ensures k { next.new.k ≡ prover.now.k }
+    ensures count { IfOk result (λ added. class_count (places_of prover.now.pair) next.new.classes ≡ class_count (places_of prover.now.pair) next.old.classes + added) }
+    ensures none { IfOk result (λ added. added ≡ 0 → next.old.classes ≡ prover.now.classes
+        → (next.new.classes ≡ prover.now.classes) × Passes prover.now.pair prover.now.k prover.now.classes member) }
+{
+    let rep = prover.version().classes().rep(member);
+    if rep == member {
+        return Ok(0);
+    }
+    if !next.classes().same(rep, member) {
+        return Ok(0);
+    }
+    prove_pair(alloc, prover, Needed { rep, member }, next)
+}
+
+// A round: proves all needed pairs of a version, and splits a copy of it. Answers the copy, and how many classes it has more.
+fn round<'p>(alloc: Global, version: Version<'p>) -> Result<(Version<'p>, u32), AllocError>
+    ensures product { IfOk result (λ r. r.0.pair ≡ version.entry.pair) }
+    ensures k { IfOk result (λ r. r.0.k ≡ version.entry.k) }
+    ensures count { IfOk result (λ r. class_count (places_of version.entry.pair) r.0.classes ≡ class_count (places_of version.entry.pair) version.entry.classes + r.1) }
+    ensures none { IfOk result (λ r. r.1 ≡ 0 → AreOfGreatest version.entry.pair version.entry.k r.0.classes) }
+{
+    let mut next = version.copy(alloc)?;
+    let prover = Prover::new(alloc, version)?;
+    let n = next.product().len();
+    let mut added: u32 = 0;
+    for member in 0..n {
+        added += prove_place(alloc, &prover, member, &mut next)?;
+    }
+    Ok((next, added))
+}
+
+/// The classes of the greatest correspondence for induction over k frames.
+pub fn greatest_classes<'p>(
+    alloc: Global,
+    product: &'p Product,
+    k: u32,
+) -> Result<Version<'p>, AllocError>
+    requires some { 0 < k }
+    requires few { k ≤ 16 }
+    ensures product { IfOk result (λ v. v.pair ≡ product.entry.now) }
+    ensures k { IfOk result (λ v. v.k ≡ k) }
+    ensures greatest { IfOk result (λ v. AreOfGreatest v.pair v.k v.classes) }
+{
+    let mut version = Version::first(alloc, product, k)?;
+    loop {
+        let (next, added) = round(alloc, version)?;
+        version = next;
+        if added == 0 {
+            return Ok(version);
+        }
+    }
+}

@@ -1,0 +1,50 @@
+//! A vector: values of all places that separate no pair of the greatest correspondence. It outlives the version under which
+//! it was found, and may split any other of the same product and k.
+ghost use Rattle.std.specs.Prelude.{◌≡◌, length, IfOk};
+ghost use Rattle.circ_model.specs.Meaning.{places_of};
+ghost use Rattle.circ_model.specs.Correspondence.{MaySplit};
+ghost use Rattle.verdict_stamp.specs.Versions.{IsVector};
+
+use bit_rows::BitRow;
+use product_machine::Product;
+use std::marker::Model;
+
+/// Values of all places in a frame in which the greatest correspondence holds.
+#[derive(Drop)]
+pub struct Vector<'p> {
+    product: &'p Product,
+    depth: u32,
+    row: BitRow,
+}
+
+impl<'p> Model for Vector<'p> {
+    ghost use Rattle.verdict_stamp.specs.Versions.{Split, IsVector};
+
+    ghost Value = { Split };
+
+    ghost view = { λ v. record { pair = v.product.now; k = v.depth; bits = v.row } };
+
+    ghost invariant = { λ v. IsVector (record { pair = v.product.now; k = v.depth; bits = v.row }) };
+}
+
+impl<'p> Vector<'p> {
+    pub(crate) fn of(product: &'p Product, k: u32, row: BitRow) -> Vector<'p>
+        requires size { length row ≡ places_of product.now }
+        requires may { MaySplit product.now k row }
+        ensures { result ≡ record { pair = product.entry.now; k = k; bits = row } }
+    {
+        Vector {
+            product,
+            depth: k,
+            row,
+        }
+    }
+
+    /// The values, which may split the classes of any version of the same product and k.
+    pub fn bits(&self) -> &BitRow
+        ensures bits { result.now ≡ self.entry.now.bits }
+        ensures may { IsVector self.entry.now }
+    {
+        &self.row
+    }
+}

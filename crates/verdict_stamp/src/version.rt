@@ -1,0 +1,158 @@
+//! A version: classes on the way to those of the greatest correspondence. It is plain data; a split takes no memory.
+ghost use Rattle.std.specs.Prelude.{◌≡◌, ◌<◌, ◌≤◌, ◌+◌, ℕ, List, Bool, IfOk, length, map};
+ghost use Rattle.circ_model.specs.Meaning.{latches_of, places_of, resets};
+ghost use Rattle.circ_model.specs.Runs.{first_bit, phases};
+ghost use Rattle.class_partition.specs.Classes.{HoldIn, class_count, split_of};
+ghost use Rattle.verdict_stamp.specs.Versions.{IsVersion, first_version};
+
+use crate::vector::Vector;
+use bit_rows::BitRow;
+use circ_model::Reset;
+use class_partition::Classes;
+use product_machine::Product;
+use std::alloc::{AllocError, Global};
+use std::marker::Model;
+
+/// Classes of a pair's places that separate no pair of its greatest correspondence, for induction over k frames. The number
+/// counts the splits that led to them.
+#[derive(Drop)]
+pub struct Version<'p> {
+    product: &'p Product,
+    depth: u32,
+    partition: Classes,
+    splits: u32,
+}
+
+impl<'p> Model for Version<'p> {
+    ghost use Rattle.verdict_stamp.specs.Versions.{Standing, IsVersion};
+
+    ghost Value = { Standing };
+
+    ghost view = { λ v. record { pair = v.product.now; k = v.depth; classes = v.partition; number = v.splits } };
+
+    ghost invariant = { λ v. IsVersion (record { pair = v.product.now; k = v.depth; classes = v.partition; number = v.splits }) };
+}
+
+// What a latch with this reset starts with in the run with all free latches 0.
+fn first_bit(reset: Reset) -> bool
+    ensures { result ≡ first_bit reset }
+{
+    match reset {
+        Reset::Zero => false,
+        Reset::One => true,
+        Reset::Free => false,
+    }
+}
+
+// The state of the run with all free latches 0.
+fn write_first_state(product: &Product, state: &mut BitRow)
+    requires { length state.old ≡ latches_of product.now }
+    ensures { state.new ≡ map first_bit (resets product.now) }
+{
+    for i in 0..state.len() {
+        state.set(i, first_bit(product.reset(i)));
+    }
+}
+
+// The values in frame 0 of the run with all inputs and all free latches 0.
+fn phases_of(alloc: Global, product: &Product) -> Result<BitRow, AllocError>
+    ensures { IfOk result (λ row. row ≡ phases product.now) }
+{
+    let mut state = BitRow::with_len(alloc, product.latches())?;
+    let inputs = BitRow::with_len(alloc, product.inputs())?;
+    let mut values = BitRow::with_len(alloc, product.len())?;
+    write_first_state(product, &mut state);
+    product.eval(&state, &inputs, &mut values);
+    Ok(values)
+}
+
+// One where classes were added.
+fn one_of(added: u32) -> u32
+    ensures none { added ≡ 0 → result ≡ 0 }
+    ensures some { 0 < added → result ≡ 1 }
+    ensures within { result ≤ added }
+{
+    if added == 0 { 0 } else { 1 }
+}
+
+impl<'p> Version<'p> {
+    /// One class of all places, each with its value in frame 0 of the run with all inputs and all free latches 0 as its
+    /// phase.
+    pub fn first(alloc: Global, product: &'p Product, k: u32) -> Result<Version<'p>, AllocError>
+        requires some { 0 < k }
+        requires few { k ≤ 16 }
+        ensures { IfOk result (λ v. v ≡ first_version product.entry.now k) }
+    {
+        let phases = phases_of(alloc, product)?;
+        let partition = Classes::one_class(alloc, &phases)?;
+        let _places = partition.len();
+        Ok(Version {
+            product,
+            depth: k,
+            partition,
+            splits: 0,
+        })
+    }
+
+    /// An equal version.
+    pub fn copy(&self, alloc: Global) -> Result<Version<'p>, AllocError>
+        ensures { IfOk result (λ v. v ≡ self.now) }
+    {
+        let partition = self.partition.copy(alloc)?;
+        Ok(Version {
+            product: self.product,
+            depth: self.depth,
+            partition,
+            splits: self.splits,
+        })
+    }
+
+    /// The pair of netlists.
+    pub fn product(&self) -> &'p Product
+        ensures pair { result.now ≡ self.now.pair }
+        ensures kept { IsVersion self.now }
+    {
+        self.product
+    }
+
+    /// In how many frames the classes are assumed.
+    pub fn k(&self) -> u32
+        ensures { result ≡ self.now.k }
+    {
+        self.depth
+    }
+
+    /// The classes.
+    pub fn classes(&self) -> &Classes
+        ensures classes { result.now ≡ self.entry.now.classes }
+        ensures kept { IsVersion self.entry.now }
+    {
+        &self.partition
+    }
+
+    /// How many splits led here.
+    pub fn number(&self) -> u32
+        ensures { result ≡ self.now.number }
+    {
+        self.splits
+    }
+
+    /// Splits the classes by a vector of the same product and k, and answers how many classes that adds. The number rises
+    /// by one exactly where that is some.
+    pub fn split_by(&mut self, vector: &Vector<'_>) -> u32
+        requires product { vector.now.pair ≡ self.old.pair }
+        requires k { vector.now.k ≡ self.old.k }
+        ensures product { self.new.pair ≡ self.old.pair }
+        ensures k { self.new.k ≡ self.old.k }
+        ensures split { self.new.classes ≡ split_of (places_of self.old.pair) self.old.classes vector.now.bits }
+        ensures count { class_count (places_of self.old.pair) self.new.classes ≡ class_count (places_of self.old.pair) self.old.classes + result }
+        ensures number { 0 < result → self.new.number ≡ self.old.number + 1 }
+        ensures none { result ≡ 0 → (self.new ≡ self.old) × HoldIn (places_of self.old.pair) self.old.classes vector.now.bits }
+    {
+        let bits = vector.bits();
+        let _places = self.product.len();
+        let added = self.partition.split_by(bits);
+        self.splits += one_of(added);
+        added
+    }
+}
