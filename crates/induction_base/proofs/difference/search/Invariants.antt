@@ -1,0 +1,7 @@
+use Rattle.std.proofs.Common.{◌≡◌}
+use Rattle.induction_base.specs.Least.{IsLeastOf}
+use Rattle.induction_base.proofs.Least.{IsBound}
+use Rattle.induction_base.proofs.difference.search.Given as goal
+
+abbrev pub invariant-loop-j : goal.invariant-loop-j
+invariant-loop-j l = IsBound l.k l.bound l.best × IsLeastOf l.product l.k l.j l.best

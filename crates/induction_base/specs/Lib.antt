@@ -1,0 +1,3 @@
+pub mod Base
+pub mod Earliest
+pub mod Least
