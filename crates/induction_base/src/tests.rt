@@ -63,6 +63,19 @@ fn least_of(alloc: Global, product: &Product, k: u32) -> Result<Option<(u32, u32
     }
 }
 
+// Whether these are the least differences below the depths 1 and k.
+fn are_least(
+    alloc: Global,
+    product: &Product,
+    k: u32,
+    least: (u32, u32, u64),
+) -> Result<bool, AllocError>
+    requires some { 0 < k }
+    requires few { k ≤ 64 }
+{
+    Ok(least_of(alloc, product, 1)? == None && least_of(alloc, product, k)? == Some(least))
+}
+
 // The frame in which two frames of a run break the equality of the left latch with this place, or none where they hold it.
 fn broken_in(alloc: Global, product: &Product, place: u32) -> Result<Option<(u32, u64)>, AllocError>
     requires places { places_of product.now ≡ 3 }
@@ -74,20 +87,30 @@ fn broken_in(alloc: Global, product: &Product, place: u32) -> Result<Option<(u32
     }
 }
 
+// Whether two toggling latches agree, and the left one and the constant don't.
+fn are_bases(alloc: Global, product: &Product) -> Result<bool, AllocError> {
+    if product.len() != 3 {
+        return Ok(false);
+    }
+    Ok(broken_in(alloc, product, 2)? == None && broken_in(alloc, product, 0)? == Some((1, 2)))
+}
+
+#[test]
+fn a_toggling_latch_leaves_the_constant_in_frame_one(rt: HostRuntime) -> Result<(), Fail> {
+    let alloc = rt.alloc();
+    match pair_of(alloc, toggle(alloc), constant(alloc, false)) {
+        Ok(product) => assert!(rt; are_least(alloc, &product, 2, (1, 0, 2))?),
+        Err(_) => assert!(rt; false),
+    }
+    Ok(())
+}
+
 #[test]
 fn the_least_frame_comes_before_the_least_output(rt: HostRuntime) -> Result<(), Fail> {
     let alloc = rt.alloc();
-    match (
-        pair_of(alloc, toggle(alloc), constant(alloc, false)),
-        pair_of(alloc, delays(alloc), constant(alloc, true)),
-    ) {
-        (Ok(toggling), Ok(delayed)) => {
-            assert!(rt; least_of(alloc, &toggling, 1)? == None);
-            assert!(rt; least_of(alloc, &toggling, 2)? == Some((1, 0, 2)));
-            assert!(rt; least_of(alloc, &delayed, 1)? == None);
-            assert!(rt; least_of(alloc, &delayed, 3)? == Some((1, 1, 2)));
-        }
-        _ => assert!(rt; false),
+    match pair_of(alloc, delays(alloc), constant(alloc, true)) {
+        Ok(product) => assert!(rt; are_least(alloc, &product, 3, (1, 1, 2))?),
+        Err(_) => assert!(rt; false),
     }
     Ok(())
 }
@@ -96,14 +119,7 @@ fn the_least_frame_comes_before_the_least_output(rt: HostRuntime) -> Result<(), 
 fn toggling_latches_agree_and_leave_the_constant(rt: HostRuntime) -> Result<(), Fail> {
     let alloc = rt.alloc();
     match pair_of(alloc, toggle(alloc), toggle(alloc)) {
-        Ok(product) => {
-            if product.len() == 3 {
-                assert!(rt; broken_in(alloc, &product, 2)? == None);
-                assert!(rt; broken_in(alloc, &product, 0)? == Some((1, 2)));
-            } else {
-                assert!(rt; false);
-            }
-        }
+        Ok(product) => assert!(rt; are_bases(alloc, &product)?),
         Err(_) => assert!(rt; false),
     }
     Ok(())
