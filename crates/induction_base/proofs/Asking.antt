@@ -1,5 +1,5 @@
 -- What an answer to a question of frames from reset says of the runs.
-use Rattle.std.proofs.Common.{◌≡◌, ◌∙◌, ◌<◌, ◌≤◌, ℕ, ◌+◌, ◌-◌, ◌⊎◌, Bool, true, false, not, List, length, inl, inr, Option, Some, None, refl, sym, ap, subst, arith}
+use Rattle.std.proofs.Common.{◌≡◌, ◌<◌, ◌≤◌, ℕ, ◌+◌, ◌-◌, ◌⊎◌, Bool, true, false, not, List, length, inl, inr, Option, Some, None, refl, sym, ap, subst, arith}
 use Rattle.std.proofs.lemmas.List.Elements.{All-nil}
 use Rattle.circ_model.specs.Meaning.{Pair, Path, IsRun, row_at, value_in}
 use Rattle.circ_model.specs.Correspondence.{HoldsIn}
@@ -13,7 +13,7 @@ use Rattle.frame_unroll.specs.declared.found.Seen.{Seen}
 use Rattle.induction_base.specs.declared.base.Base.{Base}
 use Rattle.induction_base.specs.declared.base.Base.TheVariants.{Holds, Breaks}
 use Rattle.induction_base.specs.Base.{HoldInRuns, BreaksIn, IsBase}
-use Rattle.induction_base.specs.Earliest.{HoldBelow, DifferOn, IsLeastFrame, IsEarliest}
+use Rattle.induction_base.specs.Earliest.{HoldBelow, DifferOn, IsEarliest}
 
 -- two bits are equal, or one is the other's complement, and not both
 same_or_apart : (x y : Bool) → (x ≡ y) ⊎ (x ≡ not y)

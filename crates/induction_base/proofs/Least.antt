@@ -1,7 +1,7 @@
 -- The least difference, output by output.
-use Rattle.std.proofs.Common.{◌≡◌, ◌∙◌, ◌<◌, ◌≤◌, ℕ, ◌+◌, Bool, not, List, [], length, take, slice_index, inl, inr, Option, Some, None, refl, sym, ap, subst, arith, length-take, get_or-take}
+use Rattle.std.proofs.Common.{◌≡◌, ◌∙◌, ◌<◌, ◌≤◌, ℕ, ◌+◌, Bool, List, [], length, take, slice_index, inl, inr, Option, Some, None, refl, sym, subst, arith, length-take, get_or-take}
 use Rattle.std.proofs.lemmas.Bool.{cases_lt}
-use Rattle.circ_model.specs.Meaning.{Pair, Path, IsSoundPair, IsPath, IsRun, outputs_of, places_of, row_at, state_at, inputs_at, value_in, literal_value, value, left_leaves, right_leaves}
+use Rattle.circ_model.specs.Meaning.{Pair, Path, IsSoundPair, IsPath, IsRun, outputs_of, row_at, state_at, inputs_at, value_in, literal_value, value, left_leaves, right_leaves}
 use Rattle.circ_model.specs.Correspondence.{HoldsIn, IsLiteral}
 use Rattle.circ_model.specs.Verdict.{AgreeBelow, IsLeastDifference, OutputAgrees}
 use Rattle.circ_model.specs.Laws.{cut}
@@ -14,7 +14,7 @@ use Rattle.frame_unroll.specs.Unrolled.{Unrolling, Differs, from_reset}
 use Rattle.frame_unroll.specs.declared.found.Seen.{Seen}
 use Rattle.induction_base.specs.declared.difference.Diff.{Diff}
 use Rattle.induction_base.specs.Earliest.{HoldBelow, IsLeastFrame, IsEarliest}
-use Rattle.induction_base.specs.Least.{IsShown, IsLeastBelow, IsLeastOf, IsLeastOrNone, OutputHolds}
+use Rattle.induction_base.specs.Least.{IsShown, IsLeastBelow, IsLeastOf, OutputHolds}
 use Rattle.induction_base.proofs.Asking.{not_both}
 
 -- both literals of an output stand in the row

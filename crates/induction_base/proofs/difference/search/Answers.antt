@@ -1,9 +1,6 @@
-use Rattle.std.proofs.Common.{◌+◌, ap, sym, subst, arith}
+use Rattle.std.proofs.Common.{ap, arith}
 use Rattle.std.specs.Prelude.{Some, None}
 use Rattle.frame_unroll.specs.Unrolled.{Unrolling}
-use Rattle.frame_unroll.specs.declared.found.Seen.{Seen}
-use Rattle.induction_base.specs.Earliest.{IsEarliest}
-use Rattle.induction_base.specs.Least.{IsLeastOf}
 use Rattle.induction_base.proofs.Least.{left_asked, right_asked, one_more_output, joined}
 use Rattle.induction_base.proofs.difference.search.Goals as goal
 use Rattle.induction_base.proofs.difference.search.Goals.{in-Some, in_default}

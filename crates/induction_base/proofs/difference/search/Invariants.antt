@@ -1,4 +1,3 @@
-use Rattle.std.proofs.Common.{◌≡◌}
 use Rattle.induction_base.specs.Least.{IsLeastOf}
 use Rattle.induction_base.proofs.Least.{IsBound}
 use Rattle.induction_base.proofs.difference.search.Given as goal
