@@ -1,7 +1,7 @@
 //! From frame to frame of a path: whether a path is a run, and the values of a frame.
 ghost use Rattle.std.specs.Prelude.{◌≡◌, ◌<◌, ◌≤◌, ◌+◌, ◌*◌, ◌/◌, ℕ, List, Bool, true, false, IsTrue, IfOk, ◌↔◌, length, replicate, slice_index_or};
 ghost use Rattle.circ_model.specs.declared.netlist.Reset.TheVariants.{Zero, One, Free};
-ghost use Rattle.circ_model.specs.Meaning.{bit, latches_of, places_of, resets, IsPath, IsRun, MayStartAt, row_at};
+ghost use Rattle.circ_model.specs.Meaning.{bit, latches_of, places_of, resets, IsPath, IsRun, MayStartAt, next_state, row, row_at};
 ghost use Rattle.product_machine.specs.Walk.{FitsPair};
 
 use crate::path::Path;
@@ -82,6 +82,28 @@ impl Product {
         ensures scratch { FitsPair self.now scratch.new }
     {
         self.walk(path, t, &mut scratch.state, &mut scratch.values);
+    }
+
+    /// Goes to a state, as that in which a path starts: `step` writes the values of the frames from there on, one after another.
+    pub fn start(&self, state: &BitRow, scratch: &mut Scratch)
+        requires state { length state.now ≡ latches_of self.now }
+        requires scratch { FitsPair self.now scratch.old }
+        ensures state { scratch.new.state ≡ state.now }
+        ensures scratch { FitsPair self.now scratch.new }
+    {
+        scratch.state.copy_from(state);
+    }
+
+    /// Writes the values of the frame with these inputs, and goes to the state of the next frame.
+    pub fn step(&self, inputs: &BitRow, scratch: &mut Scratch)
+        requires inputs { length inputs.now ≡ length self.now.left.inputs }
+        requires scratch { FitsPair self.now scratch.old }
+        ensures values { scratch.new.values ≡ row self.now scratch.old.state inputs.now }
+        ensures state { scratch.new.state ≡ next_state self.now scratch.old.state inputs.now }
+        ensures scratch { FitsPair self.now scratch.new }
+    {
+        self.eval(&scratch.state, inputs, &mut scratch.values);
+        self.next_state(&scratch.values, &mut scratch.state);
     }
 
     // Writes the state and the values of frame t.
