@@ -1,9 +1,10 @@
 -- Outputs by their literals in a row.
-use Rattle.std.proofs.Common.{◌≡◌, ◌∙◌, ◌<◌, ◌/◌, ◌+◌, ℕ, Bool, true, false, not, List, length, slice_index, inl, inr, Some, None, refl, sym, subst, arith}
+use Rattle.std.proofs.Common.{◌≡◌, ◌∙◌, ◌<◌, ◌/◌, ◌+◌, ℕ, suc, ap, Bool, true, false, not, List, length, slice_index, inl, inr, Some, None, refl, sym, subst, arith}
 use Rattle.std.proofs.lemmas.Bool.{cases_lt}
 use mathlib.Core.Bool.{beq}
-use Rattle.circ_model.specs.Meaning.{Pair, Path, IsSoundPair, IsPath, outputs_of, places_of, row_at}
+use Rattle.circ_model.specs.Meaning.{Pair, Path, IsSoundPair, IsPath, outputs_of, places_of, row, row_at, state_at, inputs_at, next_state}
 use Rattle.circ_model.specs.Verdict.{OutputAgrees, IsFirstDifference}
+use Rattle.circ_model.proofs.Paths.{state_next}
 use Rattle.circ_model.proofs.Rows.{left_literal_is, right_literal_is, left_value, right_value}
 use Rattle.product_machine.specs.States.{output_pair}
 use Rattle.trace_witness.specs.Replay.{AgreesIn, FirstInRow}
@@ -63,3 +64,12 @@ pub none_here : (pair : Pair) (path : Path) (t : ℕ) (row : List Bool) → IsSo
 none_here pair path t row sound is lt before e here s i within small =
     let h = subst (λ (r : List Bool). FirstInRow pair r None) e here in
     one_more (λ (s : ℕ). OutputAgrees pair path s i) t (λ s less. before s i less small) (row_to_outputs pair path t i sound is lt small (h i small)) s within
+
+-- a step from the state of a frame writes its values, and goes to the state of the next
+pub frame_stepped : (pair : Pair) (path : Path) (t : ℕ) (state inputs values : List Bool) → state ≡ state_at pair path t → inputs ≡ inputs_at path t → values ≡ row pair state inputs → values ≡ row_at pair path t
+frame_stepped pair path t state inputs values s i v = v ∙ ap (λ (x : List Bool). row pair x inputs) s ∙ ap (row pair (state_at pair path t)) i
+
+pub state_stepped : (pair : Pair) (path : Path) (t : ℕ) (state inputs next : List Bool) → state ≡ state_at pair path t → inputs ≡ inputs_at path t → next ≡ next_state pair state inputs → next ≡ state_at pair path (t + 1)
+state_stepped pair path t state inputs next s i n =
+    let one : suc t ≡ t + 1 = omega arith in
+    n ∙ ap (λ (x : List Bool). next_state pair x inputs) s ∙ ap (next_state pair (state_at pair path t)) i ∙ sym (state_next pair path t) ∙ ap (state_at pair path) one

@@ -40,8 +40,9 @@ pub fn first_difference(product: &Product, path: &Path, scratch: &mut Scratch) -
     ensures scratch { FitsPair product.now scratch.new }
 {
     let _cells = product.cells();
+    product.start(&path.start, scratch);
     for t in 0..path.inputs.len() {
-        product.values_at(path, t, scratch);
+        product.step(path.inputs.row(t), scratch);
         if let Some(j) = first_in_row(product, scratch.values()) {
             return Some((t, j));
         }
