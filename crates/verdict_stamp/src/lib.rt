@@ -5,6 +5,8 @@
 
 mod prover;
 mod refine;
+#[cfg(test)]
+mod tests;
 mod vector;
 mod verdict;
 mod version;

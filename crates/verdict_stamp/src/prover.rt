@@ -82,6 +82,13 @@ impl<'p> Prover<'p> {
         &self.current
     }
 
+    /// The version again, without its frames.
+    pub fn into_version(self) -> Version<'p>
+        ensures { result ≡ self.entry }
+    {
+        self.current
+    }
+
     // Whether a run has the pair apart in one of its first k frames.
     fn ask_base(&self, alloc: Global, pair: Needed) -> Result<Found, AllocError>
         requires place { pair.member < places_of self.now.pair }

@@ -1,12 +1,13 @@
 //! A vector: values of all places that separate no pair of the greatest correspondence. It outlives the version under which
 //! it was found, and may split any other of the same product and k.
-ghost use Rattle.std.specs.Prelude.{◌≡◌, length, IfOk};
-ghost use Rattle.circ_model.specs.Meaning.{places_of};
+ghost use Rattle.std.specs.Prelude.{◌≡◌, ◌<◌, length, IfOk};
+ghost use Rattle.circ_model.specs.Meaning.{IsRun, places_of, row_at};
 ghost use Rattle.circ_model.specs.Correspondence.{MaySplit};
 ghost use Rattle.verdict_stamp.specs.Versions.{IsVector};
 
 use bit_rows::BitRow;
-use product_machine::Product;
+use product_machine::{Path, Product, Scratch};
+use std::alloc::{AllocError, Global};
 use std::marker::Model;
 
 /// Values of all places in a frame in which the greatest correspondence holds.
@@ -38,6 +39,25 @@ impl<'p> Vector<'p> {
             depth: k,
             row,
         }
+    }
+
+    /// The values in frame t of a run, counted from 0.
+    pub fn from_run(
+        alloc: Global,
+        product: &'p Product,
+        k: u32,
+        run: &Path,
+        t: u64,
+    ) -> Result<Vector<'p>, AllocError>
+        requires run { IsRun product.now run.now }
+        requires frame { t < length run.now.inputs }
+        ensures { IfOk result (λ v. v ≡ record { pair = product.entry.now; k = k; bits = row_at product.entry.now run.entry.now t }) }
+    {
+        let mut scratch = Scratch::for_product(alloc, product)?;
+        product.values_at(run, t, &mut scratch);
+        let mut row = BitRow::with_len(alloc, product.len())?;
+        row.copy_from(scratch.values());
+        Ok(Vector::of(product, k, row))
     }
 
     /// The values, which may split the classes of any version of the same product and k.

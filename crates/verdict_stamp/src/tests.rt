@@ -1,0 +1,175 @@
+//! The classes of worked pairs, and what proofs answer on the way to them.
+ghost use Rattle.std.specs.Prelude.{◌≡◌};
+
+use crate::{Proof, Prover, Version, greatest_classes};
+use aig_graph::{BuildFault, NetBuilder, Netlist};
+use bit_rows::BitRow;
+use circ_model::Lit;
+use class_partition::Classes;
+use product_machine::{PairFault, Product};
+use std::alloc::{AllocError, Global};
+use std::test::Fail;
+
+fn literal(number: u32) -> Lit {
+    Lit::of(number / 2, number % 2 == 1)
+}
+
+// A latch that toggles from this reset, a literal, and is shown.
+fn toggle(alloc: Global, reset: u32) -> Result<Netlist, BuildFault> {
+    let mut net = NetBuilder::new(alloc, 1)?;
+    net.latch(1, literal(3), literal(reset))?;
+    net.output(literal(2))?;
+    net.finish(alloc)
+}
+
+// The constant, without inputs or with two.
+fn low(alloc: Global) -> Result<Netlist, BuildFault> {
+    let mut net = NetBuilder::new(alloc, 0)?;
+    net.output(literal(0))?;
+    net.finish(alloc)
+}
+
+// A ring of three latches with a single one, and the product of two of them.
+fn ring(alloc: Global) -> Result<Netlist, BuildFault> {
+    let mut net = NetBuilder::new(alloc, 4)?;
+    net.latch(1, literal(6), literal(1))?;
+    net.latch(2, literal(2), literal(0))?;
+    net.latch(3, literal(4), literal(0))?;
+    net.output(literal(8))?;
+    net.gate(4, literal(2), literal(4))?;
+    net.finish(alloc)
+}
+
+// The product of two inputs, each delayed by a latch.
+fn product_of_latches(alloc: Global) -> Result<Netlist, BuildFault> {
+    let mut net = NetBuilder::new(alloc, 5)?;
+    net.input(1)?;
+    net.input(2)?;
+    net.latch(3, literal(2), literal(0))?;
+    net.latch(4, literal(4), literal(0))?;
+    net.output(literal(10))?;
+    net.gate(5, literal(6), literal(8))?;
+    net.finish(alloc)
+}
+
+// The product of two inputs, delayed by one latch.
+fn latch_of_product(alloc: Global) -> Result<Netlist, BuildFault> {
+    let mut net = NetBuilder::new(alloc, 4)?;
+    net.input(1)?;
+    net.input(2)?;
+    net.latch(3, literal(8), literal(0))?;
+    net.output(literal(6))?;
+    net.gate(4, literal(2), literal(4))?;
+    net.finish(alloc)
+}
+
+// A netlist by its number.
+fn netlist(alloc: Global, number: u32) -> Result<Netlist, BuildFault> {
+    match number {
+        0 => low(alloc),
+        1 => toggle(alloc, 0),
+        2 => toggle(alloc, 1),
+        3 => ring(alloc),
+        4 => product_of_latches(alloc),
+        _ => latch_of_product(alloc),
+    }
+}
+
+fn pair_of(alloc: Global, left: u32, right: u32) -> Result<Product, PairFault> {
+    match (netlist(alloc, left), netlist(alloc, right)) {
+        (Ok(left), Ok(right)) => Product::new(alloc, left, right),
+        _ => Err(PairFault::Memory),
+    }
+}
+
+// The least place of each place's class; 9 for none.
+fn table_of(classes: &Classes) -> [u32; 8] {
+    let mut least = [9; 8];
+    for place in 0..8 {
+        if place < classes.len() {
+            least[place as usize] = classes.rep(place);
+        }
+    }
+    least
+}
+
+#[test]
+fn pairs_have_these_classes(rt: HostRuntime) -> Result<(), Fail> {
+    let alloc = rt.alloc();
+    for (left, right, k, count, least) in [
+        (1, 1, 1, 2, [0, 1, 1, 9, 9, 9, 9, 9]),
+        (1, 2, 1, 2, [0, 1, 1, 9, 9, 9, 9, 9]),
+        (1, 0, 2, 2, [0, 1, 9, 9, 9, 9, 9, 9]),
+        // the ring needs three frames
+        (0, 3, 1, 5, [0, 1, 2, 3, 4, 9, 9, 9]),
+        (0, 3, 2, 5, [0, 1, 2, 3, 4, 9, 9, 9]),
+        (0, 3, 3, 4, [0, 1, 2, 3, 0, 9, 9, 9]),
+        (4, 5, 1, 7, [0, 1, 2, 3, 4, 5, 5, 7]),
+    ] {
+        match pair_of(alloc, left, right) {
+            Ok(product) => {
+                let version = greatest_classes(alloc, &product, k)?;
+                assert!(rt;
+                    table_of(version.classes()) == least && version.classes().count() == count
+                );
+                assert!(rt; version.number() < count && version.k() == k);
+            }
+            Err(_) => assert!(rt; false),
+        }
+    }
+    Ok(())
+}
+
+// A row's bits as a number, lowest first.
+fn number_of(row: &BitRow) -> u32 {
+    let mut bits = 0;
+    for i in 0..row.len() {
+        if i < 32 && row.get(i) {
+            bits |= 1 << i;
+        }
+    }
+    bits
+}
+
+// Proves the first needed pair of a version, and splits a copy where that fails. Answers the member where it holds, or
+// else 9; the vector's bits; and the number and the count of the copy.
+fn prove_first(
+    alloc: Global,
+    version: Version<'_>,
+    next: &mut Version<'_>,
+) -> Result<[u32; 2], AllocError>
+    requires product { next.old.pair ≡ version.pair }
+    requires k { next.old.k ≡ version.k }
+    ensures product { next.new.pair ≡ next.old.pair }
+    ensures k { next.new.k ≡ next.old.k }
+{
+    let prover = Prover::new(alloc, version)?;
+    match prover.version().classes().next_pair(0) {
+        None => Ok([9, 0]),
+        Some(pair) => match prover.prove(alloc, pair)? {
+            Proof::Holds(verdict) => Ok([verdict.member(), 0]),
+            Proof::Splits(vector) => {
+                next.split_by(&vector);
+                Ok([9, number_of(vector.bits())])
+            }
+        },
+    }
+}
+
+// Two toggling latches: the constant is taken apart by the frame after reset, and then the latches hold together.
+fn toggles(alloc: Global, product: &Product) -> Result<[[u32; 2]; 2], AllocError> {
+    let mut version = Version::first(alloc, product, 1)?;
+    let first = prove_first(alloc, version.copy(alloc)?, &mut version)?;
+    let second = prove_first(alloc, version.copy(alloc)?, &mut version)?;
+    Ok([first, second])
+}
+
+#[test]
+fn a_vector_takes_the_constant_away_and_then_the_latches_hold(rt: HostRuntime) -> Result<(), Fail> {
+    let alloc = rt.alloc();
+    match pair_of(alloc, 1, 1) {
+        Ok(product) => assert!(rt; toggles(alloc, &product)? == [[9, 0b110], [2, 0]]),
+        Err(_) => assert!(rt; false),
+    }
+    Ok(())
+}
