@@ -60,3 +60,53 @@ fn a_file_that_is_cut_is_truncated_where_its_line_begins(rt: HostRuntime) -> Res
     }
     Ok(())
 }
+
+#[test]
+fn binary_files_are_read_as_text_files_are(rt: HostRuntime) -> Result<(), Fail> {
+    let alloc = rt.alloc();
+    let rows = [
+        (b"aig 1 0 0 0 1\n\x00\x00".as_slice(), ("order", 14)),
+        (b"aig 4 2 1 1 1\n8\n6\n\x04\x02".as_slice(), ("gates", 1)),
+        (
+            b"aig 4 2 1 1 1\n8\n6\n\x84\x00\x02".as_slice(),
+            ("gates", 1),
+        ),
+        (b"aig 4 2 1 1 1\n8\n6\n\x08\x00".as_slice(), ("gates", 1)),
+        (b"aig 4 2 1 1 1\n8\n6\n\x04\x05".as_slice(), ("order", 18)),
+        (
+            b"aig 4 2 1 1 1\n8\n6\n\x04\x02i1 x\nl0 y\nc".as_slice(),
+            ("gates", 1),
+        ),
+        (
+            b"aig 4 2 1 1 1\n8\n6\n\x04\x02l1 y\n".as_slice(),
+            ("symbol", 20),
+        ),
+        (b"aig 4 2 1 0 1\n8\n\x04\x02x".as_slice(), ("truncated", 18)),
+        (b"aig 4 2 1 0 0\n8\n".as_slice(), ("count", 0)),
+        (b"aig 0 0 0 0 0 0 1\n".as_slice(), ("section constraint", 0)),
+    ];
+    for (bytes, wanted) in rows {
+        assert_eq!(rt; outcome(alloc, bytes), wanted);
+    }
+    Ok(())
+}
+
+#[test]
+fn a_binary_file_that_is_cut_is_truncated_where_its_item_begins(
+    rt: HostRuntime,
+) -> Result<(), Fail> {
+    let alloc = rt.alloc();
+    let whole = b"aig 4 2 1 1 1\n8\n6\n\x04\x02".as_slice();
+    for length in 0..20usize {
+        let wanted = match length {
+            0..=2 => ("header", 0),
+            3..=13 => ("truncated", 0),
+            14..=15 => ("truncated", 14),
+            16..=17 => ("truncated", 16),
+            _ => ("truncated", 18),
+        };
+        assert_eq!(rt; outcome(alloc, &whole[..length]), wanted);
+    }
+    assert_eq!(rt; outcome(alloc, whole), ("gates", 1));
+    Ok(())
+}
