@@ -1,5 +1,5 @@
 use crate::read_netlist;
-use aiger_codec::NetError;
+use aiger_codec::{NetError, write_text_net};
 use std::alloc::Global;
 use std::test::Fail;
 
@@ -108,5 +108,29 @@ fn a_binary_file_that_is_cut_is_truncated_where_its_item_begins(
         assert_eq!(rt; outcome(alloc, &whole[..length]), wanted);
     }
     assert_eq!(rt; outcome(alloc, whole), ("gates", 1));
+    Ok(())
+}
+
+#[test]
+fn a_netlist_is_written_as_text(rt: HostRuntime) -> Result<(), Fail> {
+    let alloc = rt.alloc();
+    let rows = [
+        (
+            b"aig 4 2 1 1 1\n8\n6\n\x04\x02".as_slice(),
+            "aag 4 2 1 1 1\n2\n4\n6 8\n6\n8 4 2\n",
+        ),
+        (
+            b"aag 9 1 3 2 1\n02\n4 3 4\n6 1 1\n8 18 0\n5\n0\n18 4 2\nc".as_slice(),
+            "aag 9 1 3 2 1\n2\n4 3 4\n6 1 1\n8 18\n5\n0\n18 4 2\n",
+        ),
+    ];
+    for (bytes, wanted) in rows {
+        let net = read_netlist(alloc, bytes);
+        assert!(rt; net.is_ok());
+        if let Ok(net) = net {
+            let text = write_text_net(alloc, &net)?;
+            assert_eq!(rt; text.as_slice(), wanted.as_bytes());
+        }
+    }
     Ok(())
 }
