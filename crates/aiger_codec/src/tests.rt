@@ -74,6 +74,30 @@ fn binary_numbers_are_written_and_read(rt: HostRuntime) -> Result<(), Fail> {
 }
 
 #[test]
+fn binary_numbers_have_these_bytes(rt: HostRuntime) -> Result<(), Fail> {
+    let rows = [
+        (0u32, b"\x00".as_slice()),
+        (2, b"\x02".as_slice()),
+        (127, b"\x7f".as_slice()),
+        (128, b"\x80\x01".as_slice()),
+        (300, b"\xac\x02".as_slice()),
+        (16383, b"\xff\x7f".as_slice()),
+        (16384, b"\x80\x80\x01".as_slice()),
+        (4294967295, b"\xff\xff\xff\xff\x0f".as_slice()),
+    ];
+    for (n, wanted) in rows {
+        let mut bytes = Vec::new(rt.alloc());
+        write_delta(&mut bytes, n)?;
+        assert_eq!(rt; bytes.as_slice(), wanted);
+    }
+    assert_eq!(rt; read_delta(b"\x80\x00", 0), Delta::Value(0, 2));
+    assert_eq!(rt; read_delta(b"\xff\xff\xff\xff\x1f", 0), Delta::Wide);
+    assert_eq!(rt; read_delta(b"\x80\x80\x80\x80\x80", 0), Delta::Wide);
+    assert_eq!(rt; read_delta(b"", 0), Delta::Cut);
+    Ok(())
+}
+
+#[test]
 fn symbols_end_at_the_comment(rt: HostRuntime) -> Result<(), Fail> {
     let counts = Counts {
         inputs: 1,

@@ -2,3 +2,4 @@ pub mod OneNetlist
 pub mod OneComes
 pub mod OneReading
 pub mod SpelledFile
+pub mod Written

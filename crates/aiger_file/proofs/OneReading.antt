@@ -32,7 +32,7 @@ section_cells s n bytes u t e room cells =
     let k : n ≡ length a.0 = sym (same_length (IsLine s) r.lines a.0 a.1 ∙ r.count) in
     subst HasCells a.3 (cells_items s a.0 u.0 a.2 (subst (λ (j : ℕ). HasRoom s j u.0) k room) cells)
 
-body_cells : (h : Header) (bytes : List ℕ) (t : Netlist × ℕ) → h.m ≤ 1000000 → h.o ≤ 1000000 → body_at h bytes ≡ Ok t → HasCells t.0
+pub body_cells : (h : Header) (bytes : List ℕ) (t : Netlist × ℕ) → h.m ≤ 1000000 → h.o ≤ 1000000 → body_at h bytes ≡ Ok t → HasCells t.0
 unfolding body_at
 body_cells h bytes t small few e =
     let a = bind_is (items_at Inputs h.i bytes (nothing_given h.m, h.end)) _ t e in

@@ -57,7 +57,7 @@ file_spelled bytes net are file =
       finished = subst (λ (g : Netlist). IsFinished g net) (sym d.2) file.2;
     }
 
-after : (bytes : List ℕ) (at : ℕ) (text rest : List ℕ) → drop at bytes ≡ text ++ rest → drop (at + length text) bytes ≡ rest
+pub after : (bytes : List ℕ) (at : ℕ) (text rest : List ℕ) → drop at bytes ≡ text ++ rest → drop (at + length text) bytes ≡ rest
 after bytes at text rest is = sym (drop-drop (length text) at bytes) ∙ ap (λ (l : List ℕ). drop (length text) l) is ∙ drop-append_seam text rest
 
 pub file_read : (bytes : List ℕ) (net : Netlist) → SpellsFile bytes net → IsNetlistFile bytes net

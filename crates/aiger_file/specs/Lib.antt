@@ -1,3 +1,4 @@
 pub mod Files
 pub mod Readings
 pub mod Grammar
+pub mod Written

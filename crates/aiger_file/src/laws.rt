@@ -1,5 +1,6 @@
 // Laws on what a file means. Each function has an empty body; its contract is the law.
 ghost use Rattle.aiger_file.specs.Grammar.{FileIsSpelled, SpelledFileIsRead};
+ghost use Rattle.aiger_file.specs.Written.{WrittenTextIsRead};
 ghost use Rattle.aiger_file.specs.Readings.{HasOneReading, OneNetlist, OneFirstFault, NeverBoth};
 
 /// Each list of bytes has a netlist or a first fault, only one, and never both.
@@ -14,4 +15,9 @@ pub fn one_reading()
 pub fn spelled_files()
     ensures is_spelled { FileIsSpelled }
     ensures is_read { SpelledFileIsRead }
+{}
+
+/// The text that is written of a netlist is accepted as that netlist.
+pub fn written_text_is_read()
+    ensures { WrittenTextIsRead }
 {}
