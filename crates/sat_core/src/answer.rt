@@ -42,7 +42,7 @@ pub fn solve_with(alloc: Global, shared: &Cnf, own: &Cnf) -> Result<Answer, Allo
 
 #[cfg(test)]
 mod tests {
-    use super::{Answer, solve};
+    use super::{Answer, solve, solve_with};
     use cnf_store::Cnf;
     use std::alloc::{AllocError, Global};
     use std::test::Fail;
@@ -50,6 +50,16 @@ mod tests {
     // Whether some assignment satisfies.
     fn is_sat(alloc: Global, cnf: &Cnf) -> Result<bool, AllocError> {
         match solve(alloc, cnf)? {
+            Answer::Sat(_) => Ok(true),
+            Answer::Unsat(_) => Ok(false),
+        }
+    }
+
+    // Whether some assignment satisfies two formulas together.
+    fn are_sat(alloc: Global, shared: &Cnf, own: &Cnf) -> Result<bool, AllocError>
+        requires { shared.now.vars ≤ own.now.vars }
+    {
+        match solve_with(alloc, shared, own)? {
             Answer::Sat(_) => Ok(true),
             Answer::Unsat(_) => Ok(false),
         }
@@ -69,6 +79,19 @@ mod tests {
         assert!(rt; is_sat(rt.alloc(), &pair)?);
         pair.add(&[])?;
         assert!(rt; !is_sat(rt.alloc(), &pair)?);
+        Ok(())
+    }
+
+    #[test]
+    fn two_formulas_are_satisfied_together_or_apart_alone(rt: HostRuntime) -> Result<(), Fail> {
+        let mut shared = Cnf::new(rt.alloc(), 1)?;
+        shared.add(&[1])?;
+        let mut own = Cnf::new(rt.alloc(), 2)?;
+        own.add(&[-1, 2])?;
+        assert!(rt; are_sat(rt.alloc(), &shared, &own)?);
+        own.add(&[-2])?;
+        assert!(rt; is_sat(rt.alloc(), &shared)? && is_sat(rt.alloc(), &own)?);
+        assert!(rt; !are_sat(rt.alloc(), &shared, &own)?);
         Ok(())
     }
 }
