@@ -18,7 +18,8 @@ pub enum Base {
     Breaks(Path, u32),
 }
 
-/// Whether two literals agree in the first k frames of every run: one question over all the frames.
+/// Whether two literals of the pair agree in the first k frames of every run: one question over all the frames. It errs for
+/// want of memory alone.
 pub fn base_holds(
     alloc: Global,
     product: &Product,

@@ -18,7 +18,7 @@ pub struct Diff {
 }
 
 /// The least frame below k, and then the least output, in which the sides of the pair differ on some run. None where all
-/// outputs agree in the first k frames of every run.
+/// outputs agree in the first k frames of every run. It errs for want of memory alone.
 pub fn least_difference(
     alloc: Global,
     product: &Product,
