@@ -1,4 +1,7 @@
-pub mod Trying
-pub mod Telling
-pub mod Reporting
+pub mod CutShort
 pub mod Naming
+pub mod Concluding
+pub mod LeftOut
+pub mod Verdicts
+pub mod Pairing
+pub mod Linking

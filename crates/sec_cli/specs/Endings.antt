@@ -1,83 +1,133 @@
--- How a check of two files ends, before anything of it is written.
+-- How a run ends, before anything of it is written.
 use Rattle.std.specs.Prelude.{◌≡◌, ◌≢◌, ℕ, ◌<◌, ◌≤◌, ◌⊎◌, List, [], ◌∷◌, length, Option, IsSomeAnd, Result, Ok, Err}
 use Rattle.circ_model.specs.Netlist.{Netlist}
-use Rattle.circ_model.specs.Meaning.{Pair, IsSoundPair, places_of}
-use Rattle.circ_model.specs.Verdict.{IsVerdict, Equivalent}
+use Rattle.circ_model.specs.Meaning.{Pair, IsSoundPair}
 use Rattle.aiger_codec.specs.Lines.{fault}
 use Rattle.aiger_codec.specs.declared.fault.NetFault.{NetFault}
 use Rattle.aiger_codec.specs.declared.fault.NetKind.TheVariants as kinds
 use Rattle.aiger_file.specs.Files.{IsNetlistFile, IsFirstFault}
-use Rattle.sec_cli.specs.Plain.{free_bits}
-use Rattle.sec_cli.specs.declared.ending.Ending.{Ending}
-use Rattle.sec_cli.specs.declared.ending.Ending.TheVariants as ends
+use Rattle.trace_witness.specs.Lines.{lines_of}
+use Rattle.trace_witness.specs.Texts.{trace_of}
+use Rattle.sec_cli.specs.Answers.{IsCheckAnswer, IsReplayAnswer}
+use Rattle.sec_cli.specs.Words.{word_at}
+use Rattle.sec_cli.specs.declared.words.Check.{Check}
+use Rattle.sec_cli.specs.declared.words.Command.{Command}
+use Rattle.sec_cli.specs.declared.words.Command.TheVariants as commands
+use Rattle.sec_cli.specs.declared.ending.Answer.{Answer}
+use Rattle.sec_cli.specs.declared.ending.Refusal.{Refusal}
+use Rattle.sec_cli.specs.declared.ending.Refusal.TheVariants as refusals
 use Rattle.sec_cli.specs.declared.ending.Side.{Side}
 use Rattle.sec_cli.specs.declared.ending.Side.TheVariants.{Left, Right}
+use Rattle.sec_cli.specs.declared.ending.Unpaired.{Unpaired}
+use Rattle.sec_cli.specs.declared.ending.Unpaired.TheVariants as unpaired
 use Rattle.sec_cli.specs.declared.ending.Unread.{Unread}
 use Rattle.sec_cli.specs.declared.ending.Unread.TheVariants as unread
 
--- no netlist's file is longer
-abbrev pub longest_file : ℕ
-longest_file = 67108864
+-- how a run ends, before anything of it is written: an answer, or a refusal
+abbrev pub Ending : Type 0
+Ending = Result Answer Refusal
+
+-- no netlist's file is longer, and no trace's
+abbrev pub longest_netlist : ℕ
+longest_netlist = 67108864
+
+abbrev pub longest_trace : ℕ
+longest_trace = 1099511627776
 
 -- a file that is there, within the limit, and accepted as this netlist
 abbrev pub IsAccepted : Option (List ℕ) → Netlist → Type 0
-IsAccepted file net = IsSomeAnd file (λ bytes. (length bytes ≤ longest_file) × IsNetlistFile bytes net)
+IsAccepted file net = IsSomeAnd file (λ bytes. (length bytes ≤ longest_netlist) × IsNetlistFile bytes net)
 
 -- a file that is there, and is too long or has this first fault
 abbrev pub IsRefusedFor : List ℕ → NetFault → Type 0
-IsRefusedFor bytes f = ((longest_file < length bytes) × (f ≡ fault kinds.Limit longest_file)) ⊎ ((length bytes ≤ longest_file) × IsFirstFault bytes f)
+IsRefusedFor bytes f = ((longest_netlist < length bytes) × (f ≡ fault kinds.Limit longest_netlist)) ⊎ ((length bytes ≤ longest_netlist) × IsFirstFault bytes f)
 
 abbrev pub IsRefused : Option (List ℕ) → NetFault → Type 0
 IsRefused file f = IsSomeAnd file (λ bytes. IsRefusedFor bytes f)
 
--- what a file under a name is, where it was told
-abbrev pub IsUnread : Option (List ℕ) → Result Netlist Unread → Type 0
-IsUnread file (Ok net) = IsAccepted file net
-IsUnread file (Err (unread.Refused f)) = IsRefused file f
-IsUnread file (Err unread.Failed) = Unit {0}
-IsUnread file (Err unread.Memory) = Unit {0}
+-- what a netlist's file was found to be, where it was told
+abbrev pub IsRead : Option (List ℕ) → Result Netlist Unread → Type 0
+IsRead file (Ok net) = IsAccepted file net
+IsRead file (Err (unread.Refused f)) = IsRefused file f
+IsRead file (Err unread.Failed) = Unit {0}
+IsRead file (Err unread.Memory) = Unit {0}
 
 -- both files are accepted, as this pair
 pub record AreAccepted (left right : Option (List ℕ)) (pair : Pair) : Type 0 where
   pub is_left : IsAccepted left pair.left
   pub is_right : IsAccepted right pair.right
 
--- how two netlists end: their counts differ, or they are a pair that is too large for trying all its paths, or a pair with this verdict
-abbrev pub IsPairEnding : Pair → Ending → Type 0
-IsPairEnding pair ends.Memory = Unit {0}
-IsPairEnding pair (ends.LoadFailed side) = ⊥
-IsPairEnding pair (ends.Refused side f) = ⊥
-IsPairEnding pair (ends.InputsDiffer a b) = (a ≡ length pair.left.inputs) × (b ≡ length pair.right.inputs) × (a ≢ b)
-IsPairEnding pair (ends.OutputsDiffer a b) = (length pair.left.inputs ≡ length pair.right.inputs) × (a ≡ length pair.left.outputs) × (b ≡ length pair.right.outputs) × (a ≢ b)
-IsPairEnding pair ends.NotBuilt = IsSoundPair pair × ((16 < free_bits pair) ⊎ ((c : ℕ) → IsVerdict pair 1 1 (Equivalent c) → ⊥))
-IsPairEnding pair (ends.Equivalent signals classes) = IsSoundPair pair × (free_bits pair ≤ 16) × (signals ≡ places_of pair) × IsVerdict pair 1 1 (Equivalent classes)
+-- and it has as many inputs on both sides, and as many outputs
+pub record ArePair (left right : Option (List ℕ)) (pair : Pair) : Type 0 where
+  pub accepted : AreAccepted left right pair
+  pub sound : IsSoundPair pair
 
--- how a check of these two files ends
-abbrev pub IsEnding : Option (List ℕ) → Option (List ℕ) → Ending → Type 0
-IsEnding left right ends.Memory = Unit {0}
-IsEnding left right (ends.LoadFailed Left) = Unit {0}
-IsEnding left right (ends.LoadFailed Right) = (net : Netlist) × IsAccepted left net
-IsEnding left right (ends.Refused Left f) = IsRefused left f
-IsEnding left right (ends.Refused Right f) = ((net : Netlist) × IsAccepted left net) × IsRefused right f
-IsEnding left right (ends.InputsDiffer a b) = (pair : Pair) × AreAccepted left right pair × IsPairEnding pair (ends.InputsDiffer a b)
-IsEnding left right (ends.OutputsDiffer a b) = (pair : Pair) × AreAccepted left right pair × IsPairEnding pair (ends.OutputsDiffer a b)
-IsEnding left right ends.NotBuilt = (pair : Pair) × AreAccepted left right pair × IsPairEnding pair ends.NotBuilt
-IsEnding left right (ends.Equivalent signals classes) = (pair : Pair) × AreAccepted left right pair × IsPairEnding pair (ends.Equivalent signals classes)
+-- the counts of two netlists differ
+abbrev pub AreApart : Pair → Unpaired → Type 0
+AreApart pair (unpaired.InputsDiffer a b) = (a ≡ length pair.left.inputs) × (b ≡ length pair.right.inputs) × (a ≢ b)
+AreApart pair (unpaired.OutputsDiffer a b) = (length pair.left.inputs ≡ length pair.right.inputs) × (a ≡ length pair.left.outputs) × (b ≡ length pair.right.outputs) × (a ≢ b)
+AreApart pair unpaired.Memory = Unit {0}
+AreApart pair (unpaired.LoadFailed side) = ⊥
+AreApart pair (unpaired.Refused side f) = ⊥
 
-abbrev pub ending_of : Side → Unread → Ending
-ending_of side unread.Failed = ends.LoadFailed side
-ending_of side (unread.Refused f) = ends.Refused side f
-ending_of side unread.Memory = ends.Memory
+-- why there is no pair of these two files
+abbrev pub IsNoPair : Option (List ℕ) → Option (List ℕ) → Unpaired → Type 0
+IsNoPair left right unpaired.Memory = Unit {0}
+IsNoPair left right (unpaired.LoadFailed Left) = Unit {0}
+IsNoPair left right (unpaired.LoadFailed Right) = (net : Netlist) × IsAccepted left net
+IsNoPair left right (unpaired.Refused Left f) = IsRefused left f
+IsNoPair left right (unpaired.Refused Right f) = ((net : Netlist) × IsAccepted left net) × IsRefused right f
+IsNoPair left right (unpaired.InputsDiffer a b) = (pair : Pair) × AreAccepted left right pair × AreApart pair (unpaired.InputsDiffer a b)
+IsNoPair left right (unpaired.OutputsDiffer a b) = (pair : Pair) × AreAccepted left right pair × AreApart pair (unpaired.OutputsDiffer a b)
 
--- the file couldn't be loaded
-abbrev pub IsLoadFailed : Ending → Type 0
-IsLoadFailed (ends.LoadFailed side) = Unit {0}
-IsLoadFailed ends.Memory = ⊥
-IsLoadFailed (ends.Refused side f) = ⊥
-IsLoadFailed (ends.InputsDiffer a b) = ⊥
-IsLoadFailed (ends.OutputsDiffer a b) = ⊥
-IsLoadFailed ends.NotBuilt = ⊥
-IsLoadFailed (ends.Equivalent signals classes) = ⊥
+-- the names of a command's files
+abbrev pub left_name : List (List ℕ) → Command → List ℕ
+left_name words (commands.Check c) = word_at words c.left
+left_name words (commands.Replay c) = word_at words c.left
+
+abbrev pub right_name : List (List ℕ) → Command → List ℕ
+right_name words (commands.Check c) = word_at words c.right
+right_name words (commands.Replay c) = word_at words c.right
+
+abbrev pub trace_name : List (List ℕ) → Command → List ℕ
+trace_name words (commands.Check c) = []
+trace_name words (commands.Replay c) = word_at words c.trace
+
+-- how the check of two files ends
+abbrev pub IsCheckEnding : Option (List ℕ) → Option (List ℕ) → Check → Ending → Type 0
+IsCheckEnding left right c (Err refusals.Memory) = Unit {0}
+IsCheckEnding left right c (Err (refusals.Unpaired u)) = IsNoPair left right u
+IsCheckEnding left right c (Ok a) = (pair : Pair) × ArePair left right pair × IsCheckAnswer pair c a
+IsCheckEnding left right c (Err refusals.TraceFailed) = ⊥
+IsCheckEnding left right c (Err refusals.TraceTooLong) = ⊥
+IsCheckEnding left right c (Err (refusals.TraceRefused f)) = ⊥
+
+-- and how the replay of a third file on them ends
+abbrev pub IsReplayEnding : Option (List ℕ) → Option (List ℕ) → Option (List ℕ) → Ending → Type 0
+IsReplayEnding left right trace (Err refusals.Memory) = Unit {0}
+IsReplayEnding left right trace (Err (refusals.Unpaired u)) = IsNoPair left right u
+IsReplayEnding left right trace (Err refusals.TraceFailed) = (pair : Pair) × ArePair left right pair
+IsReplayEnding left right trace (Err refusals.TraceTooLong) = (pair : Pair) × ArePair left right pair × IsSomeAnd trace (λ bytes. longest_trace < length bytes)
+IsReplayEnding left right trace (Err (refusals.TraceRefused f)) = (pair : Pair) × ArePair left right pair × IsSomeAnd trace (λ bytes. (length bytes ≤ longest_trace) × (trace_of pair (lines_of bytes) ≡ Err f))
+IsReplayEnding left right trace (Ok a) = (pair : Pair) × ArePair left right pair × IsSomeAnd trace (λ bytes. (length bytes ≤ longest_trace) × IsReplayAnswer pair bytes a)
+
+-- how a run of these words, which are this command, ends over these files
+abbrev pub IsEnding : (List ℕ → Option (List ℕ)) → List (List ℕ) → Command → Ending → Type 0
+IsEnding file words (commands.Check c) e = IsCheckEnding (file (word_at words c.left)) (file (word_at words c.right)) c e
+IsEnding file words (commands.Replay c) e = IsReplayEnding (file (word_at words c.left)) (file (word_at words c.right)) (file (word_at words c.trace)) e
+
+abbrev pub unread_as : Side → Unread → Unpaired
+unread_as side unread.Failed = unpaired.LoadFailed side
+unread_as side (unread.Refused f) = unpaired.Refused side f
+unread_as side unread.Memory = unpaired.Memory
+
+-- a netlist's file couldn't be loaded
+abbrev pub IsLoadFailed : Unpaired → Type 0
+IsLoadFailed (unpaired.LoadFailed side) = Unit {0}
+IsLoadFailed unpaired.Memory = ⊥
+IsLoadFailed (unpaired.Refused side f) = ⊥
+IsLoadFailed (unpaired.InputsDiffer a b) = ⊥
+IsLoadFailed (unpaired.OutputsDiffer a b) = ⊥
 
 -- the names whose loads failed
 abbrev pub failed_load : Result Netlist Unread → List ℕ → List (List ℕ)
@@ -86,12 +136,65 @@ failed_load (Err (unread.Refused f)) name = []
 failed_load (Err unread.Memory) name = []
 failed_load (Ok net) name = []
 
-abbrev pub failed_names : List ℕ → List ℕ → Ending → List (List ℕ)
-failed_names left right (ends.LoadFailed Left) = left ∷ []
-failed_names left right (ends.LoadFailed Right) = right ∷ []
-failed_names left right ends.Memory = []
-failed_names left right (ends.Refused side f) = []
-failed_names left right (ends.InputsDiffer a b) = []
-failed_names left right (ends.OutputsDiffer a b) = []
-failed_names left right ends.NotBuilt = []
-failed_names left right (ends.Equivalent signals classes) = []
+abbrev pub failed_side : List ℕ → List ℕ → Unpaired → List (List ℕ)
+failed_side left right (unpaired.LoadFailed Left) = left ∷ []
+failed_side left right (unpaired.LoadFailed Right) = right ∷ []
+failed_side left right unpaired.Memory = []
+failed_side left right (unpaired.Refused side f) = []
+failed_side left right (unpaired.InputsDiffer a b) = []
+failed_side left right (unpaired.OutputsDiffer a b) = []
+
+abbrev pub failed_loads : List ℕ → List ℕ → Result Pair Unpaired → List (List ℕ)
+failed_loads left right (Ok pair) = []
+failed_loads left right (Err u) = failed_side left right u
+
+abbrev pub failed_names : List ℕ → List ℕ → List ℕ → Ending → List (List ℕ)
+failed_names left right trace (Err (refusals.Unpaired u)) = failed_side left right u
+failed_names left right trace (Err refusals.TraceFailed) = trace ∷ []
+failed_names left right trace (Err refusals.Memory) = []
+failed_names left right trace (Err refusals.TraceTooLong) = []
+failed_names left right trace (Err (refusals.TraceRefused f)) = []
+failed_names left right trace (Ok a) = []
+
+-- a load failed
+abbrev pub IsLoadEnding : Ending → Type 0
+IsLoadEnding (Err (refusals.Unpaired u)) = IsLoadFailed u
+IsLoadEnding (Err refusals.TraceFailed) = Unit {0}
+IsLoadEnding (Err refusals.Memory) = ⊥
+IsLoadEnding (Err refusals.TraceTooLong) = ⊥
+IsLoadEnding (Err (refusals.TraceRefused f)) = ⊥
+IsLoadEnding (Ok a) = ⊥
+
+-- how the replay of a trace's file on a pair ends
+abbrev pub IsReplayedAs : Pair → List ℕ → Ending → Type 0
+IsReplayedAs pair bytes (Err refusals.Memory) = Unit {0}
+IsReplayedAs pair bytes (Err (refusals.TraceRefused f)) = trace_of pair (lines_of bytes) ≡ Err f
+IsReplayedAs pair bytes (Ok a) = IsReplayAnswer pair bytes a
+IsReplayedAs pair bytes (Err (refusals.Unpaired u)) = ⊥
+IsReplayedAs pair bytes (Err refusals.TraceFailed) = ⊥
+IsReplayedAs pair bytes (Err refusals.TraceTooLong) = ⊥
+
+abbrev pub IsReplayed : Pair → Option (List ℕ) → Ending → Type 0
+IsReplayed pair file (Err refusals.Memory) = Unit {0}
+IsReplayed pair file (Err refusals.TraceFailed) = Unit {0}
+IsReplayed pair file (Err refusals.TraceTooLong) = IsSomeAnd file (λ bytes. longest_trace < length bytes)
+IsReplayed pair file (Err (refusals.TraceRefused f)) = IsSomeAnd file (λ bytes. (length bytes ≤ longest_trace) × (trace_of pair (lines_of bytes) ≡ Err f))
+IsReplayed pair file (Ok a) = IsSomeAnd file (λ bytes. (length bytes ≤ longest_trace) × IsReplayAnswer pair bytes a)
+IsReplayed pair file (Err (refusals.Unpaired u)) = ⊥
+
+-- the ending isn't that there is no pair
+abbrev pub IsOfPair : Ending → Type 0
+IsOfPair (Err (refusals.Unpaired u)) = ⊥
+IsOfPair (Err refusals.Memory) = Unit {0}
+IsOfPair (Err refusals.TraceFailed) = Unit {0}
+IsOfPair (Err refusals.TraceTooLong) = Unit {0}
+IsOfPair (Err (refusals.TraceRefused f)) = Unit {0}
+IsOfPair (Ok a) = Unit {0}
+
+abbrev pub failed_trace : List ℕ → Ending → List (List ℕ)
+failed_trace trace (Err refusals.TraceFailed) = trace ∷ []
+failed_trace trace (Err (refusals.Unpaired u)) = []
+failed_trace trace (Err refusals.Memory) = []
+failed_trace trace (Err refusals.TraceTooLong) = []
+failed_trace trace (Err (refusals.TraceRefused f)) = []
+failed_trace trace (Ok a) = []

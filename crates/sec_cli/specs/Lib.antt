@@ -1,5 +1,9 @@
-pub mod Endings
-pub mod Plain
-pub mod Reports
-pub mod Texts
 pub mod Words
+pub mod Texts
+pub mod ClassLines
+pub mod Links
+pub mod Outputs
+pub mod Answers
+pub mod Endings
+pub mod Reports
+pub mod Runs

@@ -1,59 +1,129 @@
 -- What a run writes, and the status that it ends with.
-use Rattle.std.specs.Prelude.{◌≡◌, ℕ, ◌⊎◌, Bool, IsTrue, List, [], ◌∷◌, Option, codes}
+use Rattle.std.specs.Prelude.{◌≡◌, ◌≢◌, ℕ, ◌==◌, ◌⊎◌, if◌then◌else◌, Bool, IsTrue, List, Option, None, Some, option_map, Ok, Err, codes}
 use Rattle.sec_base.specs.Faults.{Rose, appended, IsCutShort}
-use Rattle.sec_cli.specs.declared.ending.Ending.{Ending}
-use Rattle.sec_cli.specs.declared.ending.Ending.TheVariants as ends
+use Rattle.aiger_codec.specs.Lines.{fault}
+use Rattle.aiger_codec.specs.declared.fault.NetKind.TheVariants as kinds
+use Rattle.sec_cli.specs.declared.ending.Answer.{Answer}
+use Rattle.sec_cli.specs.declared.ending.Refusal.{Refusal}
+use Rattle.sec_cli.specs.declared.ending.Refusal.TheVariants as refusals
 use Rattle.sec_cli.specs.declared.ending.Side.{Side}
 use Rattle.sec_cli.specs.declared.ending.Side.TheVariants.{Left, Right}
-use Rattle.sec_cli.specs.Endings.{IsEnding}
-use Rattle.sec_cli.specs.Texts.{equivalent_text, fault_text, differ_text, not_built_text, read_failed_text, memory_text}
+use Rattle.sec_cli.specs.declared.ending.Unpaired.{Unpaired}
+use Rattle.sec_cli.specs.declared.ending.Unpaired.TheVariants as unpaired
+use Rattle.sec_cli.specs.declared.words.Command.{Command}
+use Rattle.sec_cli.specs.declared.words.Command.TheVariants as commands
+use Rattle.sec_cli.specs.Words.{word_at}
+use Rattle.sec_cli.specs.Endings.{Ending, longest_trace, left_name, right_name, trace_name}
+use Rattle.sec_cli.specs.Texts.{fault_text, trace_fault_text, differ_text, read_failed_text, store_failed_text, write_failed_text, memory_text}
 
 abbrev pub name_of_side : List ℕ → List ℕ → Side → List ℕ
 name_of_side left right Left = left
 name_of_side left right Right = right
 
--- the status of each ending but the verdict
-abbrev pub refusal_status : Ending → ℕ
-refusal_status ends.Memory = 7
-refusal_status (ends.LoadFailed side) = 5
-refusal_status (ends.Refused side f) = 4
-refusal_status (ends.InputsDiffer a b) = 4
-refusal_status (ends.OutputsDiffer a b) = 4
-refusal_status ends.NotBuilt = 4
-refusal_status (ends.Equivalent signals classes) = 0
+-- the status where there is no pair, and what is told
+abbrev pub unpaired_status : Unpaired → ℕ
+unpaired_status unpaired.Memory = 7
+unpaired_status (unpaired.LoadFailed side) = 5
+unpaired_status (unpaired.Refused side f) = 4
+unpaired_status (unpaired.InputsDiffer a b) = 4
+unpaired_status (unpaired.OutputsDiffer a b) = 4
 
--- and what is told of it
-abbrev pub refusal_text : List ℕ → List ℕ → Ending → List ℕ
-refusal_text left right ends.Memory = memory_text
-refusal_text left right (ends.LoadFailed side) = read_failed_text (name_of_side left right side)
-refusal_text left right (ends.Refused side f) = fault_text (name_of_side left right side) f
-refusal_text left right (ends.InputsDiffer a b) = differ_text (codes "inputs") a b
-refusal_text left right (ends.OutputsDiffer a b) = differ_text (codes "outputs") a b
-refusal_text left right ends.NotBuilt = not_built_text
-refusal_text left right (ends.Equivalent signals classes) = codes ""
+abbrev pub unpaired_text : List ℕ → List ℕ → Unpaired → List ℕ
+unpaired_text left right unpaired.Memory = memory_text
+unpaired_text left right (unpaired.LoadFailed side) = read_failed_text (name_of_side left right side)
+unpaired_text left right (unpaired.Refused side f) = fault_text (name_of_side left right side) f
+unpaired_text left right (unpaired.InputsDiffer a b) = differ_text (codes "inputs") a b
+unpaired_text left right (unpaired.OutputsDiffer a b) = differ_text (codes "outputs") a b
+
+-- the status of a refusal, and what is told of it
+abbrev pub refusal_status : Refusal → ℕ
+refusal_status refusals.Memory = 7
+refusal_status (refusals.Unpaired u) = unpaired_status u
+refusal_status refusals.TraceFailed = 5
+refusal_status refusals.TraceTooLong = 4
+refusal_status (refusals.TraceRefused f) = 4
+
+abbrev pub refusal_text : List ℕ → List ℕ → List ℕ → Refusal → List ℕ
+refusal_text left right trace refusals.Memory = memory_text
+refusal_text left right trace (refusals.Unpaired u) = unpaired_text left right u
+refusal_text left right trace refusals.TraceFailed = read_failed_text trace
+refusal_text left right trace refusals.TraceTooLong = fault_text trace (fault kinds.Limit longest_trace)
+refusal_text left right trace (refusals.TraceRefused f) = trace_fault_text trace f
+
+abbrev pub told_of : List (List ℕ) → Command → Refusal → List ℕ
+told_of words c r = refusal_text (left_name words c) (right_name words c) (trace_name words c) r
 
 -- the sink took the text, or failed and took a part from its front
 abbrev pub IsTold : Option (List ℕ) → ℕ → List ℕ → Option (List ℕ) → ℕ → Type 0
 IsTold before faults text after now = (after ≡ appended before text) ⊎ (Rose faults now × IsCutShort before text after)
 
--- how the check of the files under these names ended, where the shelf tells its files
-abbrev pub Ended : Bool → (List ℕ → Option (List ℕ)) → List ℕ → List ℕ → Ending → Type 0
-Ended tells file left right e = IsTrue tells → IsEnding (file left) (file right) e
+-- where the command stores the trace of an answer of this status, by the place of the name
+abbrev pub store_place : Command → ℕ → Option ℕ
+store_place (commands.Check c) status = if status == 1 then c.trace else None
+store_place (commands.Replay c) status = None
 
--- the verdict's line was printed, and is true of the files
-abbrev pub IsEquivalent : (Ending → Type 0) → Option (List ℕ) → Option (List ℕ) → Type 0
-IsEquivalent HasEnded before after = (signals : ℕ) × (classes : ℕ) × HasEnded (ends.Equivalent signals classes) × (after ≡ appended before (equivalent_text signals classes))
+-- all files but this one stay
+abbrev pub OthersStay : (List ℕ → Option (List ℕ)) → (List ℕ → Option (List ℕ)) → List ℕ → Type 0
+OthersStay before after name = (other : List ℕ) → other ≢ name → after other ≡ before other
 
--- the verdict's line was cut short
-abbrev pub IsWriteFailure : (Ending → Type 0) → Option (List ℕ) → Option (List ℕ) → Type 0
-IsWriteFailure HasEnded before after = (signals : ℕ) × (classes : ℕ) × HasEnded (ends.Equivalent signals classes) × IsCutShort before (equivalent_text signals classes) after
+-- the text is stored under the name, where there is one, and all other files stay
+abbrev pub IsStored : Bool → (List ℕ → Option (List ℕ)) → (List ℕ → Option (List ℕ)) → Option (List ℕ) → List ℕ → Type 0
+IsStored tells before after None text = after ≡ before
+IsStored tells before after (Some name) text = (IsTrue tells → after name ≡ Some text) × OthersStay before after name
 
--- a refusal was told, and is true of the files
-abbrev pub IsRefusedAs : (Ending → Type 0) → List ℕ → List ℕ → Option (List ℕ) → ℕ → Option (List ℕ) → ℕ → Type 0
-IsRefusedAs HasEnded left right before faults after now = (e : Ending) × (refusal_status e ≡ 4) × HasEnded e × IsTold before faults (refusal_text left right e) after now
+-- files, sinks and counts of faults, as they stand
+pub record World : Type 0 where
+  pub files : List ℕ → Option (List ℕ)
+  pub store_faults : ℕ
+  pub out : Option (List ℕ)
+  pub out_faults : ℕ
+  pub err : Option (List ℕ)
+  pub err_faults : ℕ
 
--- a file could not be loaded: its name was added to those whose loads failed, and told; what stands before it in the order was accepted
-abbrev pub IsReadFailure : (Ending → Type 0) → List ℕ → List ℕ → Option (List (List ℕ)) → Option (List (List ℕ)) → Option (List ℕ) → ℕ → Option (List ℕ) → ℕ → Type 0
-IsReadFailure HasEnded left right names names_after before faults after now =
-    (side : Side) × HasEnded (ends.LoadFailed side) × (names_after ≡ appended names (name_of_side left right side ∷ []))
-    × IsTold before faults (read_failed_text (name_of_side left right side)) after now
+abbrev pub IsToldIn : World → World → List ℕ → Type 0
+IsToldIn before after text = IsTold before.err before.err_faults text after.err after.err_faults
+
+-- the trace of an answer was stored, where it has a name, and its text printed
+pub record IsPrinted (tells : Bool) (name : Option (List ℕ)) (a : Answer) (before after : World) : Type 0 where
+  pub stored : IsStored tells before.files after.files name a.trace.items
+  pub printed : after.out ≡ appended before.out a.text.items
+  pub quiet : after.err ≡ before.err
+
+-- it was stored, and its printing failed
+pub record IsUnprinted (tells : Bool) (name : Option (List ℕ)) (a : Answer) (before after : World) : Type 0 where
+  pub stored : IsStored tells before.files after.files name a.trace.items
+  pub rose : Rose before.out_faults after.out_faults
+  pub cut : IsCutShort before.out a.text.items after.out
+  pub told : IsToldIn before after write_failed_text
+
+-- its storing failed, and nothing was printed
+pub record IsUnstored (name : List ℕ) (before after : World) : Type 0 where
+  pub others : OthersStay before.files after.files name
+  pub rose : Rose before.store_faults after.store_faults
+  pub kept : after.out ≡ before.out
+  pub told : IsToldIn before after (store_failed_text name)
+
+-- nothing was stored or printed, and this was told
+pub record IsOnlyTold (text : List ℕ) (before after : World) : Type 0 where
+  pub files : after.files ≡ before.files
+  pub kept : after.out ≡ before.out
+  pub told : IsToldIn before after text
+
+abbrev pub name_at : List (List ℕ) → Option ℕ → Option (List ℕ)
+name_at words place = option_map (word_at words) place
+
+abbrev pub IsUnstoredAs : Option (List ℕ) → World → World → Type 0
+IsUnstoredAs None before after = ⊥
+IsUnstoredAs (Some name) before after = IsUnstored name before after
+
+-- what became of an answer: it was printed, or 6: storing or printing failed, or 7: there was no memory to store it
+abbrev pub IsDelivery : Bool → Option (List ℕ) → Answer → World → World → ℕ → Type 0
+IsDelivery tells name a before after status =
+    ((status ≡ a.status) × IsPrinted tells name a before after)
+    ⊎ ((status ≡ 6) × (IsUnprinted tells name a before after ⊎ IsUnstoredAs name before after))
+    ⊎ ((status ≡ 7) × IsOnlyTold memory_text before after)
+
+-- what became of an ending
+abbrev pub IsReport : Bool → List (List ℕ) → Command → Ending → World → World → ℕ → Type 0
+IsReport tells words c (Ok a) before after status = IsDelivery tells (name_at words (store_place c a.status)) a before after status
+IsReport tells words c (Err r) before after status = (status ≡ refusal_status r) × IsOnlyTold (told_of words c r) before after

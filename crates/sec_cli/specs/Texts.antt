@@ -1,11 +1,33 @@
 -- The texts that a run writes.
-use Rattle.std.specs.Prelude.{ℕ, List, ◌++◌, codes, decimal}
+use Rattle.std.specs.Prelude.{ℕ, List, [], ◌∷◌, ◌++◌, codes, decimal}
+use Rattle.std.specs.List.{flat_map}
 use Rattle.aiger_codec.specs.declared.fault.NetFault.{NetFault}
 use Rattle.aiger_codec.specs.Names.{name_of}
+use Rattle.trace_witness.specs.declared.fault.TraceFault.{TraceFault}
+use Rattle.trace_witness.specs.Names.{name_of as name_of_trace_kind}
 
--- the verdict's line
-abbrev pub equivalent_text : ℕ → ℕ → List ℕ
-equivalent_text signals classes = codes "equivalent k=1 signals=" ++ (decimal signals ++ (codes " classes=" ++ (decimal classes ++ codes "\n")))
+abbrev pub equivalent_line : ℕ → ℕ → ℕ → List ℕ
+equivalent_line k signals classes = codes "equivalent k=" ++ (decimal k ++ (codes " signals=" ++ (decimal signals ++ (codes " classes=" ++ (decimal classes ++ codes "\n")))))
+
+abbrev pub undecided_head : ℕ → ℕ → ℕ → List ℕ
+undecided_head k signals classes = codes "undecided k=" ++ (decimal k ++ (codes " signals=" ++ (decimal signals ++ (codes " classes=" ++ (decimal classes ++ codes " unpaired=")))))
+
+-- numbers with commas between them
+abbrev pub with_commas : List ℕ → List ℕ
+with_commas [] = []
+with_commas (n ∷ ns) = decimal n ++ flat_map (λ m. 44 ∷ decimal m) ns
+
+abbrev pub undecided_line : ℕ → ℕ → ℕ → List ℕ → List ℕ
+undecided_line k signals classes unpaired = (undecided_head k signals classes ++ with_commas unpaired) ++ codes "\n"
+
+abbrev pub different_line : ℕ → ℕ → ℕ → List ℕ
+different_line k frame output = codes "different k=" ++ (decimal k ++ (codes " frame=" ++ (decimal frame ++ (codes " output=" ++ (decimal output ++ codes "\n")))))
+
+abbrev pub differs_line : ℕ → ℕ → List ℕ
+differs_line frame output = codes "differs frame=" ++ (decimal frame ++ (codes " output=" ++ (decimal output ++ codes "\n")))
+
+abbrev pub agrees_line : ℕ → List ℕ
+agrees_line frames = codes "agrees frames=" ++ (decimal frames ++ codes "\n")
 
 -- what each text about a file begins with
 abbrev pub about : List ℕ → List ℕ
@@ -14,14 +36,17 @@ about name = codes "sec: " ++ (name ++ codes ": ")
 abbrev pub fault_text : List ℕ → NetFault → List ℕ
 fault_text name fault = about name ++ ((name_of fault.kind ++ codes " at byte ") ++ (decimal fault.at ++ codes "\n"))
 
+abbrev pub trace_fault_text : List ℕ → TraceFault → List ℕ
+trace_fault_text name fault = about name ++ ((name_of_trace_kind fault.kind ++ codes " at line ") ++ (decimal fault.line ++ codes "\n"))
+
 abbrev pub differ_text : List ℕ → ℕ → ℕ → List ℕ
 differ_text what a b = codes "sec: " ++ ((what ++ codes " differ: ") ++ ((decimal a ++ codes " and ") ++ (decimal b ++ codes "\n")))
 
-abbrev pub not_built_text : List ℕ
-not_built_text = codes "sec: not built yet\n"
-
 abbrev pub read_failed_text : List ℕ → List ℕ
 read_failed_text name = about name ++ codes "read failed\n"
+
+abbrev pub store_failed_text : List ℕ → List ℕ
+store_failed_text name = about name ++ codes "write failed\n"
 
 abbrev pub write_failed_text : List ℕ
 write_failed_text = codes "sec: output: write failed\n"

@@ -1,5 +1,13 @@
--- The words of a run that are plain: the program's name, `check`, and the names of two files.
-use Rattle.std.specs.Prelude.{ℕ, ◌==◌, ◌&&◌, Bool, false, not, List, [], ◌∷◌, length, slice_index_or, codes, bytes_eq, String, map, string_bytes}
+-- The words of a run that are plain: the program's name, a command, the names of its files, and among them its options, each at
+-- most once. A name stands as its place among the words.
+use Rattle.std.specs.Prelude.{◌<◌, ◌≤◌, ℕ, ◌+◌, ◌==◌, ltb, leb, ◌&&◌, ◌||◌, IfSome, Bool, true, false, not, if◌then◌else◌, List, [], ◌∷◌, length, drop, slice_index_or, codes, bytes_eq, String, map, string_bytes, Option, None, Some, is_none, is_some, unwrap_or}
+use Rattle.aiger_codec.specs.Numbers.{number_at}
+use Rattle.sec_cli.specs.declared.words.Check.{Check}
+use Rattle.sec_cli.specs.declared.words.Command.{Command}
+use Rattle.sec_cli.specs.declared.words.Command.TheVariants as commands
+use Rattle.sec_cli.specs.declared.words.Waiting.{Waiting}
+use Rattle.sec_cli.specs.declared.words.Waiting.TheVariants.{Nothing, Depth, Workers, Trace}
+use Rattle.sec_cli.specs.declared.words.Reading.{Reading}
 
 -- a name is a nonempty word that doesn't begin with `-`
 abbrev pub is_name : List ℕ → Bool
@@ -13,11 +21,116 @@ texts words = map string_bytes words
 abbrev pub word_at : List (List ℕ) → ℕ → List ℕ
 word_at words i = slice_index_or words i []
 
-abbrev pub are_plain : List (List ℕ) → Bool
-are_plain words = (length words == 4) && bytes_eq (word_at words 1) (codes "check") && is_name (word_at words 2) && is_name (word_at words 3)
+abbrev pub leads_zero : List ℕ → Bool
+leads_zero [] = true
+leads_zero (c ∷ cs) = c == 48
 
-abbrev pub left_name : List (List ℕ) → List ℕ
-left_name words = word_at words 2
+-- a number from 1 to `most` that is all of a word, in decimal without leading zeros
+abbrev pub number_within : ℕ → List ℕ → Option (ℕ × ℕ) → Option ℕ
+number_within most word None = None
+number_within most word (Some n) = if not (leads_zero word) && ((n.1 == length word) && (leb 1 n.0 && leb n.0 most)) then Some n.0 else None
 
-abbrev pub right_name : List (List ℕ) → List ℕ
-right_name words = word_at words 3
+abbrev pub number_of : ℕ → List ℕ → Option ℕ
+number_of most word = number_within most word (number_at word 0)
+
+abbrev pub none_read : Reading
+none_read = record { first = None; second = None; third = None; k = None; workers = None; classes = false; trace = None; waiting = Nothing }
+
+-- one more name
+abbrev pub named : Reading → ℕ → Option Reading
+named r at =
+    if is_none r.first then Some (record r { first = Some at })
+    else if is_none r.second then Some (record r { second = Some at })
+    else if is_none r.third then Some (record r { third = Some at })
+    else None
+
+-- a word where no value is due: an option that wasn't there before, or a name
+abbrev pub flag_read : Reading → ℕ → List ℕ → Option Reading
+flag_read r at word =
+    if bytes_eq word (codes "--classes") then if r.classes then None else Some (record r { classes = true })
+    else if is_name word then named r at
+    else None
+
+abbrev pub word_read : Reading → ℕ → List ℕ → Option Reading
+word_read r at word =
+    if bytes_eq word (codes "-k") then if is_some r.k then None else Some (record r { waiting = Depth })
+    else if bytes_eq word (codes "-j") then if is_some r.workers then None else Some (record r { waiting = Workers })
+    else if bytes_eq word (codes "--trace") then if is_some r.trace then None else Some (record r { waiting = Trace })
+    else flag_read r at word
+
+abbrev pub with_number : (ℕ → Reading) → Option ℕ → Option Reading
+with_number set None = None
+with_number set (Some n) = Some (set n)
+
+-- or the value that is due
+abbrev pub value_for : Waiting → Reading → ℕ → List ℕ → Option Reading
+value_for Nothing r at word = word_read r at word
+value_for Depth r at word = with_number (λ n. record r { k = Some n; waiting = Nothing }) (number_of 16 word)
+value_for Workers r at word = with_number (λ n. record r { workers = Some n; waiting = Nothing }) (number_of 64 word)
+value_for Trace r at word = if is_name word then Some (record r { trace = Some at; waiting = Nothing }) else None
+
+abbrev pub step : Reading → ℕ → List ℕ → Option Reading
+step r at word = value_for r.waiting r at word
+
+-- all words from a place on
+abbrev pub read_all : Option Reading → ℕ → List (List ℕ) → Option Reading
+read_all None at words = None
+read_all (Some r) at [] = Some r
+read_all (Some r) at (w ∷ ws) = read_all (step r at w) (at + 1) ws
+
+-- two names and the options are `check`
+abbrev pub check_read : Option ℕ → Option ℕ → Option ℕ → Waiting → Reading → Option Command
+check_read (Some left) (Some right) None Nothing r =
+    Some (commands.Check (record { left = left; right = right; k = unwrap_or r.k 1; workers = unwrap_or r.workers 1; classes = r.classes; trace = r.trace }))
+check_read first second third waiting r = None
+
+abbrev pub check_of : Option Reading → Option Command
+check_of None = None
+check_of (Some r) = check_read r.first r.second r.third r.waiting r
+
+-- three names alone are `replay`
+abbrev pub replay_read : Option ℕ → Option ℕ → Option ℕ → Waiting → Option Command
+replay_read (Some left) (Some right) (Some trace) Nothing = Some (commands.Replay (record { left = left; right = right; trace = trace }))
+replay_read first second third waiting = None
+
+abbrev pub has_options : Reading → Bool
+has_options r = is_some r.k || (is_some r.workers || (r.classes || is_some r.trace))
+
+abbrev pub replay_of : Option Reading → Option Command
+replay_of None = None
+replay_of (Some r) = if has_options r then None else replay_read r.first r.second r.third r.waiting
+
+-- the command that the words are, or none where they aren't plain
+abbrev pub command_of : List (List ℕ) → Option Command
+command_of words =
+    if ltb (length words) 2 then None
+    else if bytes_eq (word_at words 1) (codes "check") then check_of (read_all (Some none_read) 2 (drop 2 words))
+    else if bytes_eq (word_at words 1) (codes "replay") then replay_of (read_all (Some none_read) 2 (drop 2 words))
+    else None
+
+-- each name has a place below this one
+abbrev pub IsBelow : ℕ → Option ℕ → Type 0
+IsBelow n place = IfSome place (λ p. p < n)
+
+-- each number is in its range
+abbrev pub IsUpTo : ℕ → Option ℕ → Type 0
+IsUpTo most number = IfSome number (λ n. (1 ≤ n) × (n ≤ most))
+
+pub record AreWithin (n : ℕ) (r : Reading) : Type 0 where
+  pub first : IsBelow n r.first
+  pub second : IsBelow n r.second
+  pub third : IsBelow n r.third
+  pub trace : IsBelow n r.trace
+  pub k : IsUpTo 16 r.k
+  pub workers : IsUpTo 64 r.workers
+
+pub record IsCheckOf (n : ℕ) (c : Check) : Type 0 where
+  pub left : c.left < n
+  pub right : c.right < n
+  pub trace : IsBelow n c.trace
+  pub some : 0 < c.k
+  pub few : c.k ≤ 16
+
+abbrev pub AreWordsOf : ℕ → Command → Type 0
+AreWordsOf n (commands.Check c) = IsCheckOf n c
+AreWordsOf n (commands.Replay c) = (c.left < n) × (c.right < n) × (c.trace < n)

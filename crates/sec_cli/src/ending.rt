@@ -1,6 +1,7 @@
 use aiger_codec::NetFault;
+use trace_witness::TraceFault;
 
-/// One of the two files.
+/// One of the two netlists' files.
 #[derive(Clone, Copy, Debug, PartialEq, Eq)]
 pub enum Side {
     Left,
@@ -18,9 +19,9 @@ pub(crate) enum Unread {
     Memory,
 }
 
-/// How a check ends, before anything of it is written.
+/// Why there is no pair of two files.
 #[derive(Clone, Copy, Debug, PartialEq, Eq)]
-pub enum Ending {
+pub enum Unpaired {
     /// There was no memory.
     Memory,
     /// This file couldn't be loaded.
@@ -31,8 +32,29 @@ pub enum Ending {
     InputsDiffer(u32, u32),
     /// The numbers of outputs differ.
     OutputsDiffer(u32, u32),
-    /// The pair has more than 16 free bits, or its verdict isn't that the two are equivalent.
-    NotBuilt,
-    /// The outputs are paired, with so many signals in so many classes.
-    Equivalent(u32, u32),
+}
+
+/// What a command answers.
+#[derive(Drop)]
+pub struct Answer {
+    pub status: u8,
+    /// The text that is printed.
+    pub text: Vec<u8>,
+    /// The part of it that is stored on request: a trace, where the verdict is a difference.
+    pub trace: Vec<u8>,
+}
+
+/// Why a run answers nothing.
+#[derive(Clone, Copy, Debug, PartialEq, Eq)]
+pub enum Refusal {
+    /// There was no memory.
+    Memory,
+    /// There is no pair of the two files.
+    Unpaired(Unpaired),
+    /// The trace couldn't be loaded.
+    TraceFailed,
+    /// The trace's file is too long.
+    TraceTooLong,
+    /// The trace has this first fault.
+    TraceRefused(TraceFault),
 }

@@ -1,15 +1,21 @@
-//! The program `sec` but for its `main`: the words of a run, the files, the verdict, the texts.
+//! The program `sec` but for its `main`: the words of a run, the files, the answers, the texts.
 #![tactic(auto)]
 
+mod checking;
+mod class_lines;
 mod command;
-mod decide;
+mod delivering;
 mod ending;
-mod plain;
+mod lines;
+mod loading;
+mod replaying;
+mod telling;
 mod texts;
 mod words;
 
 pub use command::{Report, run};
-pub use ending::{Ending, Side};
+pub use ending::{Answer, Refusal, Side, Unpaired};
+pub use words::{Check, Command, Replay};
 
 #[cfg(test)]
 mod tests;

@@ -5,12 +5,13 @@ use sec_base::{MemShelf, MemSink, SureShelf, SureSink};
 use std::alloc::{AllocError, Global};
 use std::test::Fail;
 
-// What a run over two files answers.
+// What a run over two netlists and a trace answers.
 #[derive(Clone, Copy)]
 struct Row {
     words: &'static str,
     left: &'static str,
     right: &'static str,
+    trace: &'static str,
     status: u8,
     out: &'static str,
     err: &'static str,
@@ -18,9 +19,14 @@ struct Row {
 
 const TOGGLE: &str = "aag 1 0 1 1 0\n2 3\n2\n";
 
-const EIGHT: &str = "aag 8 8 0 0 0\n2\n4\n6\n8\n10\n12\n14\n16\n";
+const LOW: &str = "aag 0 0 0 1 0\n0\n";
 
-const NINE: &str = "aag 9 9 0 0 0\n2\n4\n6\n8\n10\n12\n14\n16\n18\n";
+const RING: &str = "aag 4 0 3 1 1\n2 6 1\n4 2\n6 4\n8\n8 2 4\n";
+
+const DELAY: &str = "aag 2 1 1 1 0\n2\n4 2\n4\n";
+
+const MASKED: &str =
+    "aag 10 1 3 1 6\n2\n4 2\n6 21\n8 1\n6\n10 4 9\n12 5 8\n14 11 13\n16 2 14\n18 3 15\n20 17 19\n";
 
 fn words_of(alloc: Global, text: &str) -> Result<Vec<String>, AllocError> {
     let mut words = Vec::new(alloc);
@@ -30,36 +36,57 @@ fn words_of(alloc: Global, text: &str) -> Result<Vec<String>, AllocError> {
     Ok(words)
 }
 
-// Runs over a shelf and sinks in memory, of which the calls that are listed fail.
-fn answers_so(
+// A shelf with the files of a row, of which the calls that are listed fail.
+fn shelf_of(alloc: Global, row: &Row, fails: Vec<u64>) -> Option<MemShelf> {
+    let mut shelf = MemShelf::new(alloc, fails);
+    if shelf.put("left", row.left.as_bytes()).is_err() {
+        return None;
+    }
+    if shelf.put("right", row.right.as_bytes()).is_err() {
+        return None;
+    }
+    if shelf.put("trace", row.trace.as_bytes()).is_err() {
+        return None;
+    }
+    Some(shelf)
+}
+
+// Runs over a shelf and sinks in memory, of which the calls that are listed fail, and answers the shelf where all is as the row
+// has it.
+fn run_so(
     alloc: Global,
     row: &Row,
     shelf_fails: Vec<u64>,
     out_fails: Vec<u64>,
-) -> Result<bool, AllocError> {
+) -> Result<Option<MemShelf>, AllocError> {
     let words = words_of(alloc, row.words)?;
-    let mut shelf = MemShelf::new(alloc, shelf_fails);
+    let Some(mut shelf) = shelf_of(alloc, row, shelf_fails) else {
+        return Ok(None);
+    };
     let (Ok(mut out), Ok(mut err)) = (
         MemSink::with_room(alloc, 400, out_fails),
         MemSink::with_room(alloc, 400, Vec::new(alloc)),
     ) else {
-        return Ok(false);
+        return Ok(None);
     };
-    if shelf.put("left", row.left.as_bytes()).is_err() {
-        return Ok(false);
-    }
-    if shelf.put("right", row.right.as_bytes()).is_err() {
-        return Ok(false);
-    }
     let report = run(alloc, &words, &mut shelf, &mut out, &mut err);
-    Ok(
-        report.status == row.status
-            && out.bytes() == row.out.as_bytes()
-            && err.bytes() == row.err.as_bytes(),
-    )
+    if report.status == row.status
+        && out.bytes() == row.out.as_bytes()
+        && err.bytes() == row.err.as_bytes()
+    {
+        Ok(Some(shelf))
+    } else {
+        Ok(None)
+    }
 }
 
-fn check(
+fn answers_so(alloc: Global, row: &Row) -> Result<bool, AllocError> {
+    let shelf = run_so(alloc, row, Vec::new(alloc), Vec::new(alloc))?;
+    Ok(shelf.is_some())
+}
+
+fn case(
+    words: &'static str,
     left: &'static str,
     right: &'static str,
     status: u8,
@@ -67,16 +94,17 @@ fn check(
     err: &'static str,
 ) -> Row {
     Row {
-        words: "sec check left right",
+        words,
         left,
         right,
+        trace: "1\nb0\n0\n\n\n.\n",
         status,
         out,
         err,
     }
 }
 
-// Where no device fails, a run ends by the verdict, by a refusal or by want of memory.
+// Where no device fails, a run ends by an answer, by a refusal or by want of memory.
 fn run_over_sure_devices(alloc: Global, words: &[String], shelf: &mut SureShelf) -> Report
     ensures read { result.status ≢ 5 }
     ensures written { result.status ≢ 6 }
@@ -87,118 +115,253 @@ fn run_over_sure_devices(alloc: Global, words: &[String], shelf: &mut SureShelf)
 }
 
 #[test]
-fn two_files_are_answered_by_their_verdict_or_refusal(rt: HostRuntime) -> Result<(), Fail> {
+fn pairs_that_are_proved(rt: HostRuntime) -> Result<(), Fail> {
     let alloc = rt.alloc();
-    let ring = "aag 4 2 1 1 1\n2\n4\n6 8\n6\n8 2 4\n";
+    let and = "aag 5 2 2 1 1\n2\n4\n6 2\n8 4\n10\n10 6 8\n";
+    let retimed = "aag 4 2 1 1 1\n2\n4\n6 8\n6\n8 2 4\n";
+    let eight = "aag 8 8 0 0 0\n2\n4\n6\n8\n10\n12\n14\n16\n";
+    let complement = "aag 1 0 1 1 0\n2 3 1\n3\n";
+    let two = "equivalent k=1 signals=3 classes=2\n";
     let rows = [
-        check(
+        case("sec check left right", TOGGLE, TOGGLE, 0, two, ""),
+        case("sec check left right", TOGGLE, complement, 0, two, ""),
+        case(
+            "sec check left right --classes",
             TOGGLE,
-            TOGGLE,
+            complement,
             0,
-            "equivalent k=1 signals=3 classes=2\n",
+            "equivalent k=1 signals=3 classes=2\nclass l1 !r1\n",
             "",
         ),
-        check(
-            TOGGLE,
-            "aag 1 0 1 1 0\n2 3 1\n3\n",
-            0,
-            "equivalent k=1 signals=3 classes=2\n",
-            "",
-        ),
-        check(
-            "aag 5 2 2 1 1\n2\n4\n6 2\n8 4\n10\n10 6 8\n",
-            ring,
+        case(
+            "sec check left right",
+            and,
+            retimed,
             0,
             "equivalent k=1 signals=8 classes=7\n",
             "",
         ),
-        check(
+        case(
+            "sec check left right -k 3",
+            LOW,
+            RING,
+            0,
+            "equivalent k=3 signals=5 classes=4\n",
+            "",
+        ),
+        case(
+            "sec check -k 2 left -j 4 right",
+            eight,
+            eight,
+            0,
+            "equivalent k=2 signals=9 classes=9\n",
+            "",
+        ),
+        case(
+            "sec check left right",
             "aag 0 0 0 0 0\n",
             "aag 0 0 0 0 0\n",
             0,
             "equivalent k=1 signals=1 classes=1\n",
             "",
         ),
-        check(EIGHT, EIGHT, 0, "equivalent k=1 signals=9 classes=9\n", ""),
-        check(NINE, NINE, 4, "", "sec: not built yet\n"),
-        check(TOGGLE, "aag 0 0 0 1 0\n0\n", 4, "", "sec: not built yet\n"),
-        check(
-            "aag 2 1 1 1 0\n2\n4 2\n4\n",
-            "aag 0 0 0 0 0\n",
+        case(
+            "sec check left right",
+            "aag 1 0 1 1 0\n2 3\n2\nl0 x\no0 y\ncmade by hand",
+            TOGGLE,
+            0,
+            two,
+            "",
+        ),
+    ];
+    for row in rows.iter() {
+        assert!(rt; answers_so(alloc, row)?);
+    }
+    Ok(())
+}
+
+#[test]
+fn pairs_that_differ_or_stay_open(rt: HostRuntime) -> Result<(), Fail> {
+    let alloc = rt.alloc();
+    let rows = [
+        case(
+            "sec check left right",
+            TOGGLE,
+            LOW,
+            2,
+            "undecided k=1 signals=2 classes=2 unpaired=0\n",
+            "",
+        ),
+        case(
+            "sec check left right -k 2",
+            TOGGLE,
+            LOW,
+            1,
+            "different k=2 frame=1 output=0\n1\nb0\n0\n\n\n.\n",
+            "",
+        ),
+        case(
+            "sec check left right --classes",
+            DELAY,
+            MASKED,
+            2,
+            "undecided k=1 signals=12 classes=9 unpaired=0\nclass c r5\nclass l2 r2\nclass r6 !r7\n",
+            "",
+        ),
+        case(
+            "sec check left right -k 2",
+            LOW,
+            RING,
+            2,
+            "undecided k=2 signals=5 classes=5 unpaired=0\n",
+            "",
+        ),
+        case(
+            "sec check left right",
+            TOGGLE,
+            "aag 1 0 1 1 0\n2 3 1\n2\n",
+            1,
+            "different k=1 frame=0 output=0\n1\nb0\n01\n\n.\n",
+            "",
+        ),
+        case(
+            "sec check left right",
+            "aag 1 0 1 2 0\n2 3\n2\n2\n",
+            "aag 1 0 1 2 0\n2 3\n2\n0\n",
+            2,
+            "undecided k=1 signals=3 classes=2 unpaired=1\n",
+            "",
+        ),
+        case(
+            "sec replay left right trace",
+            TOGGLE,
+            LOW,
+            1,
+            "differs frame=1 output=0\n",
+            "",
+        ),
+        case(
+            "sec replay left right trace",
+            TOGGLE,
+            TOGGLE,
             4,
             "",
-            "sec: inputs differ: 1 and 0\n",
+            "sec: trace: length at line 3\n",
         ),
-        check(
-            "aag 0 0 0 0 0\n",
-            "aag 0 0 0 1 0\n0\n",
-            4,
-            "",
-            "sec: outputs differ: 0 and 1\n",
-        ),
-        check(
+    ];
+    for row in rows.iter() {
+        assert!(rt; answers_so(alloc, row)?);
+    }
+    Ok(())
+}
+
+#[test]
+fn files_that_are_refused(rt: HostRuntime) -> Result<(), Fail> {
+    let alloc = rt.alloc();
+    let words = "sec check left right";
+    let none = "aag 0 0 0 0 0\n";
+    let rows = [
+        case(words, DELAY, none, 4, "", "sec: inputs differ: 1 and 0\n"),
+        case(words, none, LOW, 4, "", "sec: outputs differ: 0 and 1\n"),
+        case(
+            words,
             "aag 1 1 0 0 0 1\n2\n2\n",
             TOGGLE,
             4,
             "",
             "sec: left: section bad at byte 0\n",
         ),
-        check(
+        case(
+            words,
             TOGGLE,
             "aag 2 1 0 1 0\n2\n4\n",
             4,
             "",
             "sec: right: undefined at byte 0\n",
         ),
-        check(
-            "aag 1 0 1 1 0\n2 3\n2\nl0 x\no0 y\ncmade by hand",
+        case(
+            "sec check left none",
             TOGGLE,
-            0,
-            "equivalent k=1 signals=3 classes=2\n",
+            TOGGLE,
+            5,
             "",
+            "sec: none: read failed\n",
+        ),
+        case(
+            "sec replay left right none",
+            TOGGLE,
+            TOGGLE,
+            5,
+            "",
+            "sec: none: read failed\n",
         ),
     ];
     for row in rows.iter() {
-        assert!(rt; answers_so(alloc, row, Vec::new(alloc), Vec::new(alloc))?);
+        assert!(rt; answers_so(alloc, row)?);
     }
     Ok(())
 }
 
 #[test]
-fn words_and_devices_that_fail_are_told(rt: HostRuntime) -> Result<(), Fail> {
+fn words_that_are_no_command(rt: HostRuntime) -> Result<(), Fail> {
     let alloc = rt.alloc();
     let usage =
         "usage: sec check LEFT RIGHT [-k K] [-j J] [--classes] [--stats] [--trace FILE] [--cert FILE]\n       sec replay LEFT RIGHT TRACE\n       sec verify LEFT RIGHT CERT\n       sec demo N [-k K] [-j J]\n";
     for words in [
         "sec",
         "sec check left",
-        "sec check left -k",
-        "sec proof left right",
+        "sec check left right more",
+        "sec check left right -k",
         "sec check left right -k 0",
+        "sec check left right -k 17",
+        "sec check left right -k 02",
+        "sec check left right -k 1 -k 1",
+        "sec check left right -j 65",
+        "sec check left right --classes --classes",
+        "sec check left right --trace -k",
+        "sec replay left right",
+        "sec replay left right trace -k 1",
+        "sec proof left right",
     ] {
-        let row = Row {
-            words,
-            left: TOGGLE,
-            right: TOGGLE,
-            status: 3,
-            out: "",
-            err: usage,
-        };
-        assert!(rt; answers_so(alloc, &row, Vec::new(alloc), Vec::new(alloc))?);
+        assert!(rt; answers_so(alloc, &case(words, TOGGLE, TOGGLE, 3, "", usage))?);
     }
-    let missing = Row {
-        words: "sec check left none",
-        left: TOGGLE,
-        right: TOGGLE,
-        status: 5,
-        out: "",
-        err: "sec: none: read failed\n",
-    };
-    assert!(rt; answers_so(alloc, &missing, Vec::new(alloc), Vec::new(alloc))?);
-    let unread = check(TOGGLE, TOGGLE, 5, "", "sec: left: read failed\n");
-    assert!(rt; answers_so(alloc, &unread, vec![in alloc; 0]?, Vec::new(alloc))?);
-    let unwritten = check(TOGGLE, TOGGLE, 6, "", "sec: output: write failed\n");
-    assert!(rt; answers_so(alloc, &unwritten, Vec::new(alloc), vec![in alloc; 0]?)?);
+    Ok(())
+}
+
+#[test]
+fn a_trace_is_stored_before_it_is_printed(rt: HostRuntime) -> Result<(), Fail> {
+    let alloc = rt.alloc();
+    let words = "sec check left right -k 2 --trace made";
+    let text = "different k=2 frame=1 output=0\n1\nb0\n0\n\n\n.\n";
+    let made = case(words, TOGGLE, LOW, 1, text, "");
+    let shelf = run_so(alloc, &made, Vec::new(alloc), Vec::new(alloc))?;
+    assert!(rt; holds(&shelf, "made", b"1\nb0\n0\n\n\n.\n"));
+    let unwritten = case(words, TOGGLE, LOW, 6, "", "sec: output: write failed\n");
+    let shelf = run_so(alloc, &unwritten, Vec::new(alloc), vec![in alloc; 0]?)?;
+    assert!(rt; holds(&shelf, "made", b"1\nb0\n0\n\n\n.\n"));
+    let unstored = case(words, TOGGLE, LOW, 6, "", "sec: made: write failed\n");
+    let shelf = run_so(alloc, &unstored, vec![in alloc; 2]?, Vec::new(alloc))?;
+    assert!(rt; shelf.is_some());
+    let unread = case(words, TOGGLE, LOW, 5, "", "sec: left: read failed\n");
+    let shelf = run_so(alloc, &unread, vec![in alloc; 0]?, Vec::new(alloc))?;
+    assert!(rt; shelf.is_some());
+    Ok(())
+}
+
+// Whether the shelf holds these bytes under a name.
+fn holds(shelf: &Option<MemShelf>, name: &str, bytes: &[u8]) -> bool {
+    match shelf {
+        Some(shelf) => match shelf.get(name) {
+            Some(file) => file == bytes,
+            None => false,
+        },
+        None => false,
+    }
+}
+
+#[test]
+fn sure_devices_are_answered(rt: HostRuntime) -> Result<(), Fail> {
+    let alloc = rt.alloc();
     let mut shelf = SureShelf::new(alloc);
     if shelf.put("left", TOGGLE.as_bytes()).is_ok() {
         let words = words_of(alloc, "sec check left left")?;

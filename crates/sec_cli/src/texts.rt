@@ -1,24 +1,11 @@
-// What a run says: the verdict's line, made whole before any of it is written, and the texts about refusals, which take no
-// memory, so that want of memory can be told too.
-ghost use Rattle.std.specs.Prelude.{◌≡◌, ◌≤◌, ◌++◌, codes, decimal, string_bytes, IfOk, OnOk, OnErr};
+// What a run says of refusals. These texts take no memory, so that want of memory can be told too.
+ghost use Rattle.std.specs.Prelude.{◌≡◌, ◌≤◌, ◌++◌, codes, decimal, OnOk, OnErr};
 ghost use Rattle.sec_base.specs.Faults.{Rose, appended, IsCutShort};
-ghost use Rattle.sec_cli.specs.Texts.{equivalent_text, about, fault_text, differ_text};
+ghost use Rattle.sec_cli.specs.Texts.{about, fault_text, trace_fault_text, differ_text};
 
 use aiger_codec::NetFault;
 use sec_base::{Failed, Sink, write_number, write_text};
-use std::alloc::{AllocError, Global};
-
-/// The line of an equivalent verdict.
-pub(crate) fn equivalent_line(
-    alloc: Global,
-    signals: u32,
-    classes: u32,
-) -> Result<String, AllocError>
-    ensures { IfOk result (λ line. string_bytes line ≡ equivalent_text signals classes) }
-{
-    let line = format!(in alloc; "equivalent k=1 signals={signals} classes={classes}\n")?;
-    Ok(line)
-}
+use trace_witness::TraceFault;
 
 // Two texts, one after the other.
 fn write_both<K: Sink>(sink: &mut K, first: &[u8], second: &[u8]) -> Result<(), Failed>
@@ -76,17 +63,37 @@ pub(crate) fn write_fault<K: Sink>(sink: &mut K, name: &[u8], fault: NetFault) -
     ensures count { K.faults sink.old ≤ K.faults sink.new }
 {
     write_about(sink, name)?;
-    write_kind_and_place(sink, fault.kind.name().as_bytes(), fault.at)
+    write_kind_and_place(sink, fault.kind.name().as_bytes(), b" at byte ", fault.at)
 }
 
-// The kind of a fault and its place.
-fn write_kind_and_place<K: Sink>(sink: &mut K, kind: &[u8], at: u64) -> Result<(), Failed>
-    ensures ok { OnOk result (K.taken sink.new ≡ appended (K.taken sink.old) ((kind.now ++ codes " at byte ") ++ (decimal at ++ codes "\n"))) }
-    ensures cut_short { OnErr result (IsCutShort (K.taken sink.old) ((kind.now ++ codes " at byte ") ++ (decimal at ++ codes "\n")) (K.taken sink.new)) }
+/// The text about a trace's first fault.
+pub(crate) fn write_trace_fault<K: Sink>(
+    sink: &mut K,
+    name: &[u8],
+    fault: TraceFault,
+) -> Result<(), Failed>
+    ensures ok { OnOk result (K.taken sink.new ≡ appended (K.taken sink.old) (trace_fault_text name.now fault)) }
+    ensures cut_short { OnErr result (IsCutShort (K.taken sink.old) (trace_fault_text name.now fault) (K.taken sink.new)) }
     ensures failed { OnErr result (Rose (K.faults sink.old) (K.faults sink.new)) }
     ensures count { K.faults sink.old ≤ K.faults sink.new }
 {
-    write_both(sink, kind, b" at byte ")?;
+    write_about(sink, name)?;
+    write_kind_and_place(sink, fault.kind.name().as_bytes(), b" at line ", fault.line)
+}
+
+// The kind of a fault and its place.
+fn write_kind_and_place<K: Sink>(
+    sink: &mut K,
+    kind: &[u8],
+    rest: &[u8],
+    at: u64,
+) -> Result<(), Failed>
+    ensures ok { OnOk result (K.taken sink.new ≡ appended (K.taken sink.old) ((kind.now ++ rest.now) ++ (decimal at ++ codes "\n"))) }
+    ensures cut_short { OnErr result (IsCutShort (K.taken sink.old) ((kind.now ++ rest.now) ++ (decimal at ++ codes "\n")) (K.taken sink.new)) }
+    ensures failed { OnErr result (Rose (K.faults sink.old) (K.faults sink.new)) }
+    ensures count { K.faults sink.old ≤ K.faults sink.new }
+{
+    write_both(sink, kind, rest)?;
     write_number_and(sink, at, b"\n")
 }
 

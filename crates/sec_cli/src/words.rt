@@ -1,23 +1,280 @@
-// The words of a run.
-ghost use Rattle.std.specs.Prelude.{◌≡◌};
-ghost use Rattle.sec_cli.specs.Words.{are_plain, is_name, texts};
+// The words of a run: which command they are, with which files and options.
+ghost use Rattle.std.specs.Prelude.{◌≡◌, ◌≤◌, ◌<◌, ℕ, List, drop, length, IfSome, Some};
+ghost use Rattle.sec_cli.specs.Words.{is_name, leads_zero, texts, number_of, none_read, step, named, word_read, flag_read, read_all, check_of, replay_of, command_of, AreWithin, AreWordsOf, IsUpTo};
+
+use aiger_codec::read_number;
+
+/// The words of `check`. A name stands as its place among the words of the run.
+#[derive(Clone, Copy, Debug, PartialEq, Eq)]
+pub struct Check {
+    pub left: usize,
+    pub right: usize,
+    /// The depth of the induction.
+    pub k: u32,
+    /// How many workers are asked for.
+    pub workers: u32,
+    /// Whether the classes are printed.
+    pub classes: bool,
+    /// Where a trace is stored.
+    pub trace: Option<usize>,
+}
+
+/// The words of `replay`, likewise.
+#[derive(Clone, Copy, Debug, PartialEq, Eq)]
+pub struct Replay {
+    pub left: usize,
+    pub right: usize,
+    pub trace: usize,
+}
+
+/// What the words of a run ask for.
+#[derive(Clone, Copy, Debug, PartialEq, Eq)]
+pub enum Command {
+    Check(Check),
+    Replay(Replay),
+}
+
+/// The option whose value comes next.
+#[derive(Clone, Copy, Debug, PartialEq, Eq)]
+pub enum Waiting {
+    Nothing,
+    Depth,
+    Workers,
+    Trace,
+}
+
+/// What the words so far say: three names at most, by their places, and each option at most once.
+#[derive(Clone, Copy, Debug, PartialEq, Eq)]
+pub struct Reading {
+    pub first: Option<usize>,
+    pub second: Option<usize>,
+    pub third: Option<usize>,
+    pub k: Option<u32>,
+    pub workers: Option<u32>,
+    pub classes: bool,
+    pub trace: Option<usize>,
+    pub waiting: Waiting,
+}
 
 // A name is a nonempty word that doesn't begin with `-`.
-fn is_name(word: &str) -> bool
+fn is_name(word: &[u8]) -> bool
     ensures { result ≡ is_name word.now }
 {
-    match word.as_bytes().first() {
+    match word.first() {
         Some(first) => *first != b'-',
         None => false,
     }
 }
 
-/// Whether the words are the program's name, `check` and the names of two files.
-pub(crate) fn is_plain(words: &[String]) -> bool
-    ensures { result ≡ are_plain (texts words.now) }
+// No digit but 0 leads.
+fn leads_zero(word: &[u8]) -> bool
+    ensures { result ≡ leads_zero word.now }
 {
-    words.len() == 4
-        && words[1].as_bytes() == b"check".as_slice()
-        && is_name(words[2].as_str())
-        && is_name(words[3].as_str())
+    match word.first() {
+        Some(first) => *first == b'0',
+        None => true,
+    }
+}
+
+// A number from 1 to `most`, in decimal without leading zeros.
+fn number_of(word: &[u8], most: u32) -> Option<u32>
+    ensures number { result ≡ number_of most word.now }
+    ensures within { IsUpTo most result }
+{
+    let (number, end) = read_number(word, 0)?;
+    if !leads_zero(word) && end == word.len() as u64 && 1 <= number && number <= most {
+        Some(number)
+    } else {
+        None
+    }
+}
+
+// One more name.
+fn named(r: Reading, at: usize) -> Option<Reading>
+    ensures read { result ≡ named r at }
+    ensures within { (n : ℕ) → at < n → AreWithin n r → IfSome result (AreWithin n) }
+{
+    if r.first.is_none() {
+        Some(Reading {
+            first: Some(at),
+            ..r
+        })
+    } else if r.second.is_none() {
+        Some(Reading {
+            second: Some(at),
+            ..r
+        })
+    } else if r.third.is_none() {
+        Some(Reading {
+            third: Some(at),
+            ..r
+        })
+    } else {
+        None
+    }
+}
+
+// A flag or a name, where no value is due.
+fn flag_read(r: Reading, at: usize, word: &[u8]) -> Option<Reading>
+    ensures read { result ≡ flag_read r at word.now }
+    ensures within { (n : ℕ) → at < n → AreWithin n r → IfSome result (AreWithin n) }
+{
+    if word == b"--classes".as_slice() {
+        if r.classes {
+            None
+        } else {
+            Some(Reading { classes: true, ..r })
+        }
+    } else if is_name(word) {
+        named(r, at)
+    } else {
+        None
+    }
+}
+
+// A word where no value is due.
+fn word_read(r: Reading, at: usize, word: &[u8]) -> Option<Reading>
+    ensures read { result ≡ word_read r at word.now }
+    ensures within { (n : ℕ) → at < n → AreWithin n r → IfSome result (AreWithin n) }
+{
+    if word == b"-k".as_slice() {
+        if r.k.is_some() {
+            None
+        } else {
+            Some(Reading {
+                waiting: Waiting::Depth,
+                ..r
+            })
+        }
+    } else if word == b"-j".as_slice() {
+        if r.workers.is_some() {
+            None
+        } else {
+            Some(Reading {
+                waiting: Waiting::Workers,
+                ..r
+            })
+        }
+    } else if word == b"--trace".as_slice() {
+        if r.trace.is_some() {
+            None
+        } else {
+            Some(Reading {
+                waiting: Waiting::Trace,
+                ..r
+            })
+        }
+    } else {
+        flag_read(r, at, word)
+    }
+}
+
+// One word more.
+fn step(r: Reading, at: usize, word: &[u8]) -> Option<Reading>
+    ensures read { result ≡ step r at word.now }
+    ensures within { (n : ℕ) → at < n → AreWithin n r → IfSome result (AreWithin n) }
+{
+    match r.waiting {
+        Waiting::Nothing => word_read(r, at, word),
+        Waiting::Depth => {
+            let k = number_of(word, 16)?;
+            Some(Reading {
+                k: Some(k),
+                waiting: Waiting::Nothing,
+                ..r
+            })
+        }
+        Waiting::Workers => {
+            let workers = number_of(word, 64)?;
+            Some(Reading {
+                workers: Some(workers),
+                waiting: Waiting::Nothing,
+                ..r
+            })
+        }
+        Waiting::Trace => {
+            if is_name(word) {
+                Some(Reading {
+                    trace: Some(at),
+                    waiting: Waiting::Nothing,
+                    ..r
+                })
+            } else {
+                None
+            }
+        }
+    }
+}
+
+// What the words past the command say.
+fn read_all(words: &[String]) -> Option<Reading>
+    requires { 2 ≤ length words.now }
+    ensures read { result ≡ read_all (Some none_read) 2 (drop 2 (texts words.now)) }
+    ensures within { IfSome result (AreWithin (length words.now)) }
+{
+    let mut reading = Reading {
+        first: None,
+        second: None,
+        third: None,
+        k: None,
+        workers: None,
+        classes: false,
+        trace: None,
+        waiting: Waiting::Nothing,
+    };
+    for at in 2..words.len() {
+        reading = step(reading, at, words[at].as_bytes())?;
+    }
+    Some(reading)
+}
+
+fn check_of(r: Reading) -> Option<Command>
+    ensures command { result ≡ check_of (Some r) }
+    ensures within { (n : ℕ) → AreWithin n r → IfSome result (AreWordsOf n) }
+{
+    match (r.first, r.second, r.third, r.waiting) {
+        (Some(left), Some(right), None, Waiting::Nothing) => Some(Command::Check(Check {
+            left,
+            right,
+            k: r.k.unwrap_or(1),
+            workers: r.workers.unwrap_or(1),
+            classes: r.classes,
+            trace: r.trace,
+        })),
+        _ => None,
+    }
+}
+
+fn replay_of(r: Reading) -> Option<Command>
+    ensures command { result ≡ replay_of (Some r) }
+    ensures within { (n : ℕ) → AreWithin n r → IfSome result (AreWordsOf n) }
+{
+    if r.k.is_some() || r.workers.is_some() || r.classes || r.trace.is_some() {
+        return None;
+    }
+    match (r.first, r.second, r.third, r.waiting) {
+        (Some(left), Some(right), Some(trace), Waiting::Nothing) => {
+            Some(Command::Replay(Replay { left, right, trace }))
+        }
+        _ => None,
+    }
+}
+
+/// The command that plain words are, or none where they aren't plain.
+pub(crate) fn command_of(words: &[String]) -> Option<Command>
+    ensures command { result ≡ command_of (texts words.now) }
+    ensures within { IfSome result (AreWordsOf (length words.now)) }
+{
+    if words.len() < 2 {
+        return None;
+    }
+    let reading = read_all(words)?;
+    let name = words[1].as_bytes();
+    if name == b"check".as_slice() {
+        check_of(reading)
+    } else if name == b"replay".as_slice() {
+        replay_of(reading)
+    } else {
+        None
+    }
 }

@@ -1,21 +1,40 @@
-use Rattle.std.proofs.Common.{◌≡◌, ◌∙◌, List, ℕ, refl, arith, sym, subst}
-use Rattle.sec_cli.specs.Words.{texts, left_name, right_name}
-use Rattle.sec_cli.specs.Reports.{Ended, IsEquivalent}
-use Rattle.sec_cli.proofs.Naming.{four_words, text_at}
-use Rattle.sec_cli.proofs.Reporting.{among_all}
+use Rattle.std.proofs.Common.{◌≡◌, ◌≢◌, ◌∙◌, ℕ, List, Option, Some, MatchBool, is_some, sym, subst}
+use Rattle.sec_cli.specs.declared.words.Command.{Command}
+use Rattle.sec_cli.specs.Words.{texts, command_of}
+use Rattle.sec_cli.specs.Reports.{IsTold}
+use Rattle.sec_cli.proofs.Concluding.{answered, quiet, refused, unread, is_load, unwritten, told_memory, out_stays, names_stay, files_stay, within, some_and}
 use Rattle.sec_cli.proofs.command.run.Goals as goal
 
-pub returns-then-not-is_plain-clause-status : goal.returns-then-not-is_plain-clause-status
-returns-then-not-is_plain-clause-status g c = (1, omega arith, refl)
-
-pub returns-clause-status : goal.returns-clause-status
-returns-clause-status g c = among_all c.check-status.result c.check-status.ensures.status
-
-pub returns-clause-equivalent : goal.returns-clause-equivalent
-returns-clause-equivalent g c z =
+pub returns-in-Some : goal.returns-in-Some
+returns-in-Some g c =
     let words : List (List ℕ) = texts c.args.words.now in
-    let four = four_words c.args.words.now (sym c.is_plain.ensures ∙ c.if-not-is_plain.false) in
-    let left : c.as_str.result.now ≡ left_name words = c.as_str.ensures.value ∙ text_at c.args.words.now 2 c.index-words-2.result (omega (arith, four)) c.index-words-2.is in
-    let right : c.as_str-2.result.now ≡ right_name words = c.as_str-2.ensures.value ∙ text_at c.args.words.now 3 c.index-words-3.result (omega (arith, four)) c.index-words-3.is in
-    let IsAnswer : List ℕ → List ℕ → Type 0 = λ l r. IsEquivalent (Ended g.S.Shelf.tells (g.S.Shelf.file c.args.shelf.now) l r) (g.O.Sink.taken c.args.out.now) (g.O.Sink.taken c.check-status.new.out) in
-    subst (λ (l : List ℕ). IsAnswer l (right_name words)) left (subst (IsAnswer c.as_str.result.now) right (c.check-status.ensures.equivalent z))
+    let command : Command = c.in-Some.command in
+    let is : command_of words ≡ Some command = sym c.command_of.ensures.command ∙ c.in-Some.is in
+    let p = c.perform-status in
+    let tells = g.S.Shelf.tells in
+    let (e, ended, low, load, named, report) = p.ensures.reported in
+    let bounds = within tells words command e _ _ p.result low report in
+    record {
+      usage = subst (λ (o : Option Command). MatchBool (is_some o) (p.result ≢ 3) (p.result ≡ 3)) (sym is) bounds.1;
+      told_usage = λ three. absurd (bounds.1 three);
+      status = bounds.0;
+      answered = λ le. some_and (command_of words) command _ is (answered tells words command e _ _ p.result low ended report le);
+      refused = λ four. some_and (command_of words) command _ is (refused tells words command e _ _ p.result low ended report four);
+      load_rose = λ five. load (is_load tells words command e _ _ p.result low report five);
+      unread = λ five. some_and (command_of words) command _ is (unread tells words command e _ _ _ _ p.result low ended named report five);
+      unwritten = λ six. some_and (command_of words) command _ is (unwritten tells words command e _ _ p.result low ended report six);
+      told_memory = λ seven. told_memory tells words command e _ _ p.result low report seven;
+      out_stays = λ high not_six. out_stays tells words command e _ _ p.result low report high not_six;
+      err_stays = λ le. quiet tells words command e _ _ p.result report le;
+      names = λ not_five. names_stay tells words command e _ _ _ _ p.result named report not_five;
+      files = λ not_one not_six. files_stay tells words command e _ _ p.result report not_one not_six;
+      load_count = p.ensures.load_count;
+      store_count = p.ensures.store_count;
+      out_count = p.ensures.out_count;
+      err_count = p.ensures.err_count;
+    }
+
+pub returns-in-None-clause-told_usage : goal.returns-in-None-clause-told_usage
+returns-in-None-clause-told_usage g c three =
+    let t = c.tell in
+    subst (λ (text : List ℕ). IsTold (g.E.Sink.taken c.args.err.now) (g.E.Sink.faults c.args.err.now) text (g.E.Sink.taken t.new.err) (g.E.Sink.faults t.new.err)) c.as_bytes.ensures.value t.ensures.told

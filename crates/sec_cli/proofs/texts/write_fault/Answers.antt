@@ -2,7 +2,7 @@ use Rattle.std.proofs.Common.{◌≡◌, ◌∙◌, ◌++◌, ℕ, List, codes, 
 use Rattle.sec_base.specs.Faults.{IsCutShort}
 use Rattle.aiger_codec.specs.Names.{name_of}
 use Rattle.sec_cli.specs.Texts.{about}
-use Rattle.sec_cli.proofs.Telling.{cut_first, cut_then, on_err, on_err_map}
+use Rattle.sec_cli.proofs.CutShort.{cut_first, cut_then, on_err, on_err_map}
 use Rattle.sec_cli.proofs.texts.write_fault.Goals as goal
 
 pub returns-in_err-write_about-clause-cut_short : goal.returns-in_err-write_about-clause-cut_short

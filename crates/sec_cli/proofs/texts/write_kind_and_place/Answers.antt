@@ -1,4 +1,4 @@
-use Rattle.sec_cli.proofs.Telling.{cut_first, cut_then, on_err, on_err_map}
+use Rattle.sec_cli.proofs.CutShort.{cut_first, cut_then, on_err, on_err_map}
 use Rattle.sec_cli.proofs.texts.write_kind_and_place.Goals as goal
 
 pub returns-in_err-write_both-clause-cut_short : goal.returns-in_err-write_both-clause-cut_short

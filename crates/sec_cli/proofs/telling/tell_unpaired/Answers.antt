@@ -1,0 +1,14 @@
+use Rattle.std.proofs.Common.{sym, subst}
+use Rattle.sec_cli.specs.declared.ending.Unpaired.{Unpaired}
+use Rattle.sec_cli.specs.Reports.{IsTold, unpaired_text}
+use Rattle.sec_cli.proofs.telling.tell_unpaired.Goals as goal
+
+pub returns-in-InputsDiffer-clause-told : goal.returns-in-InputsDiffer-clause-told
+returns-in-InputsDiffer-clause-told g c =
+    let t = c.tell_differ in
+    subst (λ (u : Unpaired). IsTold (g.E.Sink.taken c.args.err.now) (g.E.Sink.faults c.args.err.now) (unpaired_text c.args.left.now c.args.right.now u) (g.E.Sink.taken t.new.err) (g.E.Sink.faults t.new.err)) (sym c.in-InputsDiffer.is) t.ensures.told
+
+pub returns-in-OutputsDiffer-clause-told : goal.returns-in-OutputsDiffer-clause-told
+returns-in-OutputsDiffer-clause-told g c =
+    let t = c.tell_differ-in-OutputsDiffer in
+    subst (λ (u : Unpaired). IsTold (g.E.Sink.taken c.args.err.now) (g.E.Sink.faults c.args.err.now) (unpaired_text c.args.left.now c.args.right.now u) (g.E.Sink.taken t.new.err) (g.E.Sink.faults t.new.err)) (sym c.in-OutputsDiffer.is) t.ensures.told

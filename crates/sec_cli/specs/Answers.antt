@@ -1,0 +1,53 @@
+-- What a command answers, once its files are accepted: a status and a text.
+use Rattle.std.specs.Prelude.{◌≡◌, ℕ, ◌+◌, List, [], ◌++◌, length, Option, Some, None, Ok, MatchBool}
+use Rattle.circ_model.specs.Meaning.{Pair, Path, IsRun, places_of}
+use Rattle.circ_model.specs.Verdict.{Verdict, Equivalent, Different, Undecided, IsVerdict, IsFirstDifference, FirstDifference}
+use Rattle.class_partition.specs.Classes.{Classes, ArePartition, AreOfGreatest}
+use Rattle.trace_witness.specs.Lines.{lines_of}
+use Rattle.trace_witness.specs.Texts.{trace_text, trace_of}
+use Rattle.trace_witness.specs.declared.read.Trace.{Trace}
+use Rattle.sec_cli.specs.ClassLines.{class_lines}
+use Rattle.sec_cli.specs.Texts.{equivalent_line, undecided_line, different_line, differs_line, agrees_line}
+use Rattle.sec_cli.specs.declared.ending.Answer.{Answer}
+use Rattle.sec_cli.specs.declared.words.Check.{Check}
+
+abbrev pub status_of_verdict : Verdict → ℕ
+status_of_verdict (Equivalent classes) = 0
+status_of_verdict (Different frame output) = 1
+status_of_verdict (Undecided classes unpaired) = 2
+
+-- the lines of the greatest correspondence's classes, where they are asked for
+abbrev pub AreClassLines : Pair → Check → List ℕ → Type 0
+AreClassLines pair c lines = MatchBool c.classes
+    ((classes : Classes) × ArePartition (places_of pair) classes × AreOfGreatest pair c.k classes × (lines ≡ class_lines pair classes))
+    (lines ≡ [])
+
+-- a run that ends at its first difference, which is this one
+pub record ShowsDifference (pair : Pair) (frame output : ℕ) (run : Path) : Type 0 where
+  pub is_run : IsRun pair run
+  pub rows : length run.inputs ≡ frame + 1
+  pub first : IsFirstDifference pair run frame output
+
+-- what is printed of a verdict, and the trace in it, where there is one
+abbrev pub IsVerdictText : Pair → Check → Verdict → List ℕ → List ℕ → Type 0
+IsVerdictText pair c (Equivalent n) text trace = (lines : List ℕ) × AreClassLines pair c lines × (text ≡ equivalent_line c.k (places_of pair) n ++ lines)
+IsVerdictText pair c (Undecided n u) text trace = (lines : List ℕ) × AreClassLines pair c lines × (text ≡ undecided_line c.k (places_of pair) n u ++ lines)
+IsVerdictText pair c (Different t j) text trace = (run : Path) × ShowsDifference pair t j run × (trace ≡ trace_text j run) × (text ≡ different_line c.k t j ++ trace)
+
+-- the verdict's status and text
+abbrev pub IsVerdictAnswer : Pair → Check → ℕ → List ℕ → List ℕ → Type 0
+IsVerdictAnswer pair c status text trace = (v : Verdict) × IsVerdict pair c.k c.k v × (status ≡ status_of_verdict v) × IsVerdictText pair c v text trace
+
+abbrev pub IsCheckAnswer : Pair → Check → Answer → Type 0
+IsCheckAnswer pair c answer = IsVerdictAnswer pair c answer.status answer.text.items answer.trace.items
+
+abbrev pub IsReplayText : Path → Option (ℕ × ℕ) → Answer → Type 0
+IsReplayText run (Some d) answer = (answer.status ≡ 1) × (answer.text.items ≡ differs_line d.0 d.1)
+IsReplayText run None answer = (answer.status ≡ 0) × (answer.text.items ≡ agrees_line (length run.inputs))
+
+-- what a trace shows: the first difference, or that all outputs agree in all its frames
+abbrev pub IsReplayOf : Pair → Path → Answer → Type 0
+IsReplayOf pair run answer = (first : Option (ℕ × ℕ)) × FirstDifference pair run first × IsReplayText run first answer
+
+abbrev pub IsReplayAnswer : Pair → List ℕ → Answer → Type 0
+IsReplayAnswer pair bytes answer = (trace : Trace) × (trace_of pair (lines_of bytes) ≡ Ok trace) × IsReplayOf pair trace.run answer

@@ -1,0 +1,45 @@
+-- What a run of plain words says, for each kind of status: the command, the files, and what was written.
+use Rattle.std.specs.Prelude.{◌≡◌, ℕ, ◌⊎◌, Bool, IsTrue, List, Option, Ok, Err}
+use Rattle.sec_base.specs.Faults.{appended}
+use Rattle.sec_cli.specs.declared.ending.Answer.{Answer}
+use Rattle.sec_cli.specs.declared.ending.Refusal.{Refusal}
+use Rattle.sec_cli.specs.declared.words.Command.{Command}
+use Rattle.sec_cli.specs.Endings.{Ending, IsEnding, left_name, right_name, trace_name, failed_names}
+use Rattle.sec_cli.specs.Reports.{World, IsTold, IsStored, IsUnprinted, IsUnstoredAs, store_place, name_at, refusal_status, told_of}
+
+-- how the command ended, where the shelf tells its files
+abbrev pub Ended : Bool → (List ℕ → Option (List ℕ)) → List (List ℕ) → Command → Ending → Type 0
+Ended tells file words c e = IsTrue tells → IsEnding file words c e
+
+-- the name under which the trace of an answer is stored, if any
+abbrev pub store_name : List (List ℕ) → Command → Answer → Option (List ℕ)
+store_name words c a = name_at words (store_place c a.status)
+
+-- the answer of the command was printed, its trace stored where it has a name for it; and it is true of the files
+pub record IsAnswered (tells : Bool) (words : List (List ℕ)) (c : Command) (status : ℕ) (before after : World) : Type 0 where
+  pub answer : Answer
+  pub ended : Ended tells before.files words c (Ok answer)
+  pub status_is : answer.status ≡ status
+  pub stored : IsStored tells before.files after.files (store_name words c answer) answer.trace.items
+  pub printed : after.out ≡ appended before.out answer.text.items
+
+-- a refusal was told, and is true of the files
+pub record IsRefused (tells : Bool) (words : List (List ℕ)) (c : Command) (before after : World) : Type 0 where
+  pub refusal : Refusal
+  pub ended : Ended tells before.files words c (Err refusal)
+  pub status_is : refusal_status refusal ≡ 4
+  pub told : IsTold before.err before.err_faults (told_of words c refusal) after.err after.err_faults
+
+-- a file could not be loaded: its name was added to those whose loads failed, and told; what stands before it in the order was accepted
+pub record IsUnread (tells : Bool) (words : List (List ℕ)) (c : Command) (names names_after : Option (List (List ℕ))) (before after : World) : Type 0 where
+  pub refusal : Refusal
+  pub ended : Ended tells before.files words c (Err refusal)
+  pub status_is : refusal_status refusal ≡ 5
+  pub name : names_after ≡ appended names (failed_names (left_name words c) (right_name words c) (trace_name words c) (Err refusal))
+  pub told : IsTold before.err before.err_faults (told_of words c refusal) after.err after.err_faults
+
+-- the answer of the command could not be stored, or not be printed
+pub record IsUnwritten (tells : Bool) (words : List (List ℕ)) (c : Command) (before after : World) : Type 0 where
+  pub answer : Answer
+  pub ended : Ended tells before.files words c (Ok answer)
+  pub failed : IsUnprinted tells (store_name words c answer) answer before after ⊎ IsUnstoredAs (store_name words c answer) before after

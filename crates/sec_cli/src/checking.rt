@@ -1,0 +1,162 @@
+// The answer of `check`: the verdict of a pair, and its text.
+ghost use Rattle.std.specs.Prelude.{◌≡◌, ◌≢◌, ◌≤◌, ◌<◌, ◌++◌, ℕ, List, [], length, IfOk, OnOk};
+ghost use Rattle.circ_model.specs.Meaning.{IsSoundPair, places_of, outputs_of};
+ghost use Rattle.circ_model.specs.Verdict.{AgreeBelow};
+ghost use Rattle.class_partition.specs.Classes.{ArePartition, AreOfGreatest};
+ghost use Rattle.class_partition.specs.Laws.{PairOutput};
+ghost use Rattle.induction_base.specs.Least.{IsShown};
+ghost use Rattle.sec_cli.specs.Outputs.{AreLeftOut};
+ghost use Rattle.sec_cli.specs.Answers.{AreClassLines, IsCheckAnswer};
+
+use crate::class_lines::push_class_lines;
+use crate::ending::Answer;
+use crate::lines::{different_line, equivalent_line, push_numbers, undecided_head};
+use crate::words::Check;
+use class_partition::Classes;
+use induction_base::{Diff, least_difference};
+use product_machine::Product;
+use std::alloc::{AllocError, Global};
+use trace_witness::write_trace;
+use verdict_stamp::greatest_classes;
+
+// The outputs that the classes don't pair.
+fn left_out(alloc: Global, product: &Product, classes: &Classes) -> Result<Vec<u32>, AllocError>
+    requires sound { IsSoundPair product.now }
+    requires places { length classes.now.least ≡ places_of product.now }
+    ensures { IfOk result (λ u. AreLeftOut product.now classes.now (outputs_of product.now) u.items) }
+{
+    let mut outputs = Vec::new(alloc);
+    for j in 0..product.outputs() {
+        let (left, right) = product.output(j);
+        if !classes.paired(left, right) {
+            outputs.push(j)?;
+        }
+    }
+    Ok(outputs)
+}
+
+// Adds the class lines where they are asked for.
+fn push_classes(
+    alloc: Global,
+    product: &Product,
+    c: &Check,
+    classes: &Classes,
+    text: &mut Vec<u8>,
+) -> Result<(), AllocError>
+    requires partition { ArePartition (places_of product.now) classes.now }
+    requires greatest { AreOfGreatest product.now c.now.k classes.now }
+    ensures { OnOk result ((lines : List ℕ) × AreClassLines product.now c.now lines × (text.new.items ≡ text.old.items ++ lines)) }
+{
+    if c.classes {
+        push_class_lines(alloc, product, classes, text)?;
+    }
+    Ok(())
+}
+
+// The answer by the classes of the greatest correspondence, where no run differs below the depth.
+fn answer_by(
+    alloc: Global,
+    product: &Product,
+    c: &Check,
+    classes: &Classes,
+) -> Result<Answer, AllocError>
+    requires sound { IsSoundPair product.now }
+    requires partition { ArePartition (places_of product.now) classes.now }
+    requires greatest { AreOfGreatest product.now c.now.k classes.now }
+    requires agree { AgreeBelow product.now c.now.k }
+    ensures answer { IfOk result (IsCheckAnswer product.now c.now) }
+    ensures status { IfOk result (λ a. a.status ≤ 2) }
+{
+    let _places = classes.len();
+    let outputs = left_out(alloc, product, classes)?;
+    if outputs.is_empty() {
+        equivalent(alloc, product, c, classes)
+    } else {
+        undecided(alloc, product, c, classes, outputs.as_slice())
+    }
+}
+
+// All outputs are paired.
+fn equivalent(
+    alloc: Global,
+    product: &Product,
+    c: &Check,
+    classes: &Classes,
+) -> Result<Answer, AllocError>
+    requires sound { IsSoundPair product.now }
+    requires partition { ArePartition (places_of product.now) classes.now }
+    requires greatest { AreOfGreatest product.now c.now.k classes.now }
+    requires paired { (j : ℕ) → j < outputs_of product.now → PairOutput product.now classes.now j }
+    ensures answer { IfOk result (IsCheckAnswer product.now c.now) }
+    ensures status { IfOk result (λ a. a.status ≤ 2) }
+{
+    let line = equivalent_line(alloc, c.k, product.len(), classes.count())?;
+    let mut text = Vec::from_slice(alloc, line.as_bytes())?;
+    push_classes(alloc, product, c, classes, &mut text)?;
+    Ok(Answer {
+        status: 0,
+        text,
+        trace: Vec::new(alloc),
+    })
+}
+
+// These outputs aren't.
+fn undecided(
+    alloc: Global,
+    product: &Product,
+    c: &Check,
+    classes: &Classes,
+    outputs: &[u32],
+) -> Result<Answer, AllocError>
+    requires sound { IsSoundPair product.now }
+    requires partition { ArePartition (places_of product.now) classes.now }
+    requires greatest { AreOfGreatest product.now c.now.k classes.now }
+    requires agree { AgreeBelow product.now c.now.k }
+    requires some { outputs.now ≢ [] }
+    requires left_out { AreLeftOut product.now classes.now (outputs_of product.now) outputs.now }
+    ensures answer { IfOk result (IsCheckAnswer product.now c.now) }
+    ensures status { IfOk result (λ a. a.status ≤ 2) }
+{
+    let line = undecided_head(alloc, c.k, product.len(), classes.count())?;
+    let mut text = Vec::from_slice(alloc, line.as_bytes())?;
+    push_numbers(alloc, &mut text, outputs)?;
+    text.push(b'\n')?;
+    push_classes(alloc, product, c, classes, &mut text)?;
+    Ok(Answer {
+        status: 2,
+        text,
+        trace: Vec::new(alloc),
+    })
+}
+
+// A run differs.
+fn different(alloc: Global, product: &Product, c: &Check, diff: &Diff) -> Result<Answer, AllocError>
+    requires shown { IsShown product.now c.now.k diff.now }
+    ensures answer { IfOk result (IsCheckAnswer product.now c.now) }
+    ensures status { IfOk result (λ a. a.status ≤ 2) }
+{
+    let line = different_line(alloc, c.k, diff.frame, diff.output)?;
+    let mut text = Vec::from_slice(alloc, line.as_bytes())?;
+    let trace = write_trace(alloc, product, diff.output, &diff.run)?;
+    text.extend_from_slice(trace.as_slice())?;
+    Ok(Answer {
+        status: 1,
+        text,
+        trace,
+    })
+}
+
+/// The verdict of a pair, as it is printed.
+pub(crate) fn check_pair(alloc: Global, product: &Product, c: &Check) -> Result<Answer, AllocError>
+    requires some { 0 < c.now.k }
+    requires few { c.now.k ≤ 16 }
+    ensures answer { IfOk result (IsCheckAnswer product.now c.now) }
+    ensures status { IfOk result (λ a. a.status ≤ 2) }
+{
+    let _sound = product.cells();
+    if let Some(diff) = least_difference(alloc, product, c.k)? {
+        return different(alloc, product, c, &diff);
+    }
+    let version = greatest_classes(alloc, product, c.k)?;
+    answer_by(alloc, product, c, version.classes())
+}

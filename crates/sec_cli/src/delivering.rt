@@ -1,0 +1,96 @@
+// What becomes of an answer: its trace is stored, where the command has a name for that, and then its text is printed.
+ghost use Rattle.std.specs.Prelude.{◌≡◌, ◌≤◌, ◌⊎◌, Option, Some, length};
+ghost use Rattle.sec_base.specs.Faults.{Rose, appended, IsCutShort};
+ghost use Rattle.sec_cli.specs.Words.{texts, AreWordsOf};
+ghost use Rattle.sec_cli.specs.Reports.{IsDelivery, IsTold, name_at, store_place};
+ghost use Rattle.sec_cli.specs.Texts.{write_failed_text};
+
+use crate::ending::Answer;
+use crate::telling::{tell, tell_unstored};
+use crate::words::Command;
+use sec_base::{Failed, Shelf, Sink, StoreFault, write_text};
+
+// Prints a text, and answers the status, or 6 where that fails.
+fn print<O: Sink, E: Sink>(text: &[u8], status: u8, out: &mut O, err: &mut E) -> u8
+    requires { status ≤ 2 }
+    ensures done { ((result ≡ status) × (O.taken out.new ≡ appended (O.taken out.old) text.now) × (E.taken err.new ≡ E.taken err.old))
+        ⊎ ((result ≡ 6) × Rose (O.faults out.old) (O.faults out.new) × IsCutShort (O.taken out.old) text.now (O.taken out.new)
+        × IsTold (E.taken err.old) (E.faults err.old) write_failed_text (E.taken err.new) (E.faults err.new)) }
+    ensures out_count { O.faults out.old ≤ O.faults out.new }
+    ensures err_count { E.faults err.old ≤ E.faults err.new }
+{
+    match write_text(out, text) {
+        Ok(()) => status,
+        Err(Failed) => {
+            tell(err, b"sec: output: write failed\n");
+            6
+        }
+    }
+}
+
+// Stores the trace of an answer under a name, and prints the text.
+fn store_and_print<S: Shelf, O: Sink, E: Sink>(
+    answer: &Answer,
+    name: &str,
+    shelf: &mut S,
+    out: &mut O,
+    err: &mut E,
+) -> u8
+    requires { answer.now.status ≤ 2 }
+    ensures delivered { IsDelivery S.tells (Some name.now) answer.now
+        (record { files = S.file shelf.old; store_faults = S.store_faults shelf.old; out = O.taken out.old; out_faults = O.faults out.old; err = E.taken err.old; err_faults = E.faults err.old })
+        (record { files = S.file shelf.new; store_faults = S.store_faults shelf.new; out = O.taken out.new; out_faults = O.faults out.new; err = E.taken err.new; err_faults = E.faults err.new }) result }
+    ensures names { S.failed shelf.new ≡ S.failed shelf.old }
+    ensures load_count { S.load_faults shelf.new ≡ S.load_faults shelf.old }
+    ensures store_count { S.store_faults shelf.old ≤ S.store_faults shelf.new }
+    ensures out_count { O.faults out.old ≤ O.faults out.new }
+    ensures err_count { E.faults err.old ≤ E.faults err.new }
+{
+    match shelf.store(name, answer.trace.as_slice()) {
+        Ok(()) => print(answer.text.as_slice(), answer.status, out, err),
+        Err(StoreFault::Failed) => {
+            tell_unstored(err, name.as_bytes());
+            6
+        }
+        Err(StoreFault::Memory) => {
+            tell(err, b"sec: out of memory\n");
+            7
+        }
+    }
+}
+
+// The place of the name under which a command stores the trace of an answer of this status.
+fn store_place(command: Command, status: u8) -> Option<usize>
+    ensures { result ≡ store_place command status }
+{
+    match command {
+        Command::Check(c) => if status == 1 { c.trace } else { None },
+        Command::Replay(_) => None,
+    }
+}
+
+/// Stores the trace of an answer, where the command has a name for it, and prints the text. Answers the status of the run.
+pub(crate) fn deliver<S: Shelf, O: Sink, E: Sink>(
+    words: &[String],
+    command: Command,
+    answer: &Answer,
+    shelf: &mut S,
+    out: &mut O,
+    err: &mut E,
+) -> u8
+    requires status { answer.now.status ≤ 2 }
+    requires words { AreWordsOf (length words.now) command }
+    ensures delivered { IsDelivery S.tells (name_at (texts words.now) (store_place command answer.now.status)) answer.now
+        (record { files = S.file shelf.old; store_faults = S.store_faults shelf.old; out = O.taken out.old; out_faults = O.faults out.old; err = E.taken err.old; err_faults = E.faults err.old })
+        (record { files = S.file shelf.new; store_faults = S.store_faults shelf.new; out = O.taken out.new; out_faults = O.faults out.new; err = E.taken err.new; err_faults = E.faults err.new }) result }
+    ensures names { S.failed shelf.new ≡ S.failed shelf.old }
+    ensures load_count { S.load_faults shelf.new ≡ S.load_faults shelf.old }
+    ensures store_count { S.store_faults shelf.old ≤ S.store_faults shelf.new }
+    ensures out_count { O.faults out.old ≤ O.faults out.new }
+    ensures err_count { E.faults err.old ≤ E.faults err.new }
+{
+    match store_place(command, answer.status) {
+        Some(place) => store_and_print(answer, words[place].as_str(), shelf, out, err),
+        None => print(answer.text.as_slice(), answer.status, out, err),
+    }
+}

@@ -1,0 +1,82 @@
+// What a run prints: each text is made whole before any of it is written.
+ghost use Rattle.std.specs.Prelude.{◌≡◌, ◌++◌, codes, decimal, string_bytes, IfOk, OnOk};
+ghost use Rattle.sec_cli.specs.Texts.{equivalent_line, undecided_head, undecided_line, with_commas, different_line, differs_line, agrees_line};
+
+use std::alloc::{AllocError, Global};
+
+/// The line of an equivalent verdict.
+pub(crate) fn equivalent_line(
+    alloc: Global,
+    k: u32,
+    signals: u32,
+    classes: u32,
+) -> Result<String, AllocError>
+    ensures { IfOk result (λ line. string_bytes line ≡ equivalent_line k signals classes) }
+{
+    format!(in alloc; "equivalent k={k} signals={signals} classes={classes}\n")
+}
+
+/// The line of a verdict that leaves outputs unpaired, up to their numbers.
+pub(crate) fn undecided_head(
+    alloc: Global,
+    k: u32,
+    signals: u32,
+    classes: u32,
+) -> Result<String, AllocError>
+    ensures { IfOk result (λ line. string_bytes line ≡ undecided_head k signals classes) }
+{
+    format!(in alloc; "undecided k={k} signals={signals} classes={classes} unpaired=")
+}
+
+/// The line of a verdict that tells a difference.
+pub(crate) fn different_line(
+    alloc: Global,
+    k: u32,
+    frame: u32,
+    output: u32,
+) -> Result<String, AllocError>
+    ensures { IfOk result (λ line. string_bytes line ≡ different_line k frame output) }
+{
+    format!(in alloc; "different k={k} frame={frame} output={output}\n")
+}
+
+/// The line of a trace that differs.
+pub(crate) fn differs_line(alloc: Global, frame: u64, output: u32) -> Result<String, AllocError>
+    ensures { IfOk result (λ line. string_bytes line ≡ differs_line frame output) }
+{
+    format!(in alloc; "differs frame={frame} output={output}\n")
+}
+
+/// The line of a trace on which all outputs agree.
+pub(crate) fn agrees_line(alloc: Global, frames: u64) -> Result<String, AllocError>
+    ensures { IfOk result (λ line. string_bytes line ≡ agrees_line frames) }
+{
+    format!(in alloc; "agrees frames={frames}\n")
+}
+
+// A number, and what stands before it.
+fn push_number(alloc: Global, text: &mut Vec<u8>, number: u32) -> Result<(), AllocError>
+    ensures { OnOk result (text.new.items ≡ text.old.items ++ decimal number) }
+{
+    let word = format!(in alloc; "{number}")?;
+    text.extend_from_slice(word.as_bytes())
+}
+
+/// Numbers with commas between them.
+pub(crate) fn push_numbers(
+    alloc: Global,
+    text: &mut Vec<u8>,
+    numbers: &[u32],
+) -> Result<(), AllocError>
+    ensures { OnOk result (text.new.items ≡ text.old.items ++ with_commas numbers.now) }
+{
+    let Some((first, rest)) = numbers.split_first() else {
+        return Ok(());
+    };
+    push_number(alloc, text, *first)?;
+    for number in rest {
+        text.push(b',')?;
+        push_number(alloc, text, *number)?;
+    }
+    Ok(())
+}

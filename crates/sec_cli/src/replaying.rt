@@ -1,0 +1,77 @@
+// The answer of `replay`: what a stored trace shows on a pair.
+ghost use Rattle.std.specs.Prelude.{◌≡◌, ◌≤◌, ◌<◌, ◌^◌, ℕ, List, [], ◌∷◌, IsTrue, IfOk, length};
+ghost use Rattle.sec_base.specs.Faults.{Rose, appended};
+ghost use Rattle.circ_model.specs.Meaning.{IsRun};
+ghost use Rattle.sec_cli.specs.Answers.{IsReplayOf};
+ghost use Rattle.sec_cli.specs.Endings.{IsReplayed, IsReplayedAs, IsOfPair, IsLoadEnding, failed_trace};
+
+use crate::ending::{Answer, Refusal};
+use crate::lines::{agrees_line, differs_line};
+use product_machine::{Path, Product, Scratch};
+use sec_base::{LoadFault, Shelf};
+use std::alloc::{AllocError, Global};
+use trace_witness::{TraceError, first_difference, read_trace};
+
+const LONGEST_TRACE: u64 = 1099511627776;
+
+// What a run shows.
+fn answer_of(alloc: Global, product: &Product, run: &Path) -> Result<Answer, AllocError>
+    requires run { IsRun product.now run.now }
+    ensures replay { IfOk result (IsReplayOf product.now run.now) }
+    ensures status { IfOk result (λ a. a.status ≤ 2) }
+{
+    let mut scratch = Scratch::for_product(alloc, product)?;
+    let (status, line) = match first_difference(product, run, &mut scratch) {
+        Some((frame, output)) => (1, differs_line(alloc, frame, output)?),
+        None => (0, agrees_line(alloc, run.inputs.len())?),
+    };
+    let text = Vec::from_slice(alloc, line.as_bytes())?;
+    Ok(Answer {
+        status,
+        text,
+        trace: Vec::new(alloc),
+    })
+}
+
+// What the bytes of a trace show.
+fn replay_bytes(alloc: Global, product: &Product, bytes: &[u8]) -> Result<Answer, Refusal>
+    requires { length bytes.now ≤ 1099511627776 }
+    ensures replayed { IsReplayedAs product.now bytes.now result }
+    ensures status { IfOk result (λ a. a.status ≤ 2) }
+    ensures no_pair { IsOfPair result }
+    ensures loaded { IsLoadEnding result → ⊥ }
+{
+    match read_trace(alloc, product, bytes) {
+        Ok(trace) => match answer_of(alloc, product, &trace.run) {
+            Ok(answer) => Ok(answer),
+            Err(_) => Err(Refusal::Memory),
+        },
+        Err(TraceError::Refused(fault)) => Err(Refusal::TraceRefused(fault)),
+        Err(TraceError::Memory) => Err(Refusal::Memory),
+    }
+}
+
+/// How the replay of a trace's file on a pair ends.
+pub(crate) fn replay<S: Shelf>(
+    alloc: Global,
+    shelf: &mut S,
+    product: &Product,
+    name: &str,
+) -> Result<Answer, Refusal>
+    ensures replayed { IsTrue S.tells → IsReplayed product.now (S.file shelf.old name.now) result }
+    ensures status { IfOk result (λ a. a.status ≤ 2) }
+    ensures failed { IsLoadEnding result → Rose (S.load_faults shelf.old) (S.load_faults shelf.new) }
+    ensures no_pair { IsOfPair result }
+    ensures files { S.file shelf.new ≡ S.file shelf.old }
+    ensures names { S.failed shelf.new ≡ appended (S.failed shelf.old) (failed_trace name.now result) }
+    ensures load_count { S.load_faults shelf.old ≤ S.load_faults shelf.new }
+    ensures store_count { S.store_faults shelf.new ≡ S.store_faults shelf.old }
+{
+    let mut bytes = Vec::new(alloc);
+    match shelf.load(name, LONGEST_TRACE, &mut bytes) {
+        Ok(()) => replay_bytes(alloc, product, bytes.as_slice()),
+        Err(LoadFault::TooLong) => Err(Refusal::TraceTooLong),
+        Err(LoadFault::Failed) => Err(Refusal::TraceFailed),
+        Err(LoadFault::Memory) => Err(Refusal::Memory),
+    }
+}
