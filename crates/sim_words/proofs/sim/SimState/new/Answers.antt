@@ -1,0 +1,11 @@
+use Rattle.std.proofs.Common.{rules, ◌≡◌, ◌∙◌, ap, arith, length}
+use Rattle.std.proofs.lemmas.List.{with_items_is}
+use Rattle.sim_words.specs.Lanes.{lane}
+use Rattle.sim_words.proofs.Runs.{start_is_first, zero_lane}
+use Rattle.sim_words.proofs.sim.SimState.new.Goals as goal
+
+pub returns-clause-lanes : goal.returns-clause-lanes
+returns-clause-lanes c b lt =
+    let fits : length c.write_start.new.state ≡ c.in_ok-state.state.len = omega (arith, c.write_start.ensures.size, c.in_ok-state.ensures.len, c.latches.ensures) in
+    ap (lane b) (with_items_is c.in_ok-state.state c.write_start.new.state fits)
+    ∙ start_is_first c.args.product.now (lane b c.as_slice.result.now) (lane b c.write_start.new.state) (λ k. zero_lane b c.len.result k c.as_slice.result.now (c.as_slice.ensures.value ∙ c.in_ok-words.ensures.items_if_clones_equal (search rules))) (c.write_start.ensures.lanes b lt)

@@ -1,0 +1,47 @@
+//! The state after a reset: what each latch starts with in each lane.
+ghost use Rattle.std.specs.Prelude.{◌≡◌, ◌<◌, ◌≤◌, ◌+◌, ℕ, length, if◌then◌else◌};
+ghost use Rattle.circ_model.specs.declared.netlist.Reset.TheVariants.{Free};
+ghost use Rattle.circ_model.specs.Meaning.{bit, latches_of};
+ghost use Rattle.sim_words.specs.Lanes.{lane, lane_bit};
+ghost use Rattle.sim_words.specs.Simulation.{IsStart, free_count, is_free, start_bit};
+
+use circ_model::Reset;
+use product_machine::Product;
+
+// The word of a latch with this reset: of a free one it is the next that was given.
+fn start_word(reset: Reset, free: &[u64], used: usize) -> u64
+    requires { reset ≡ Free → used < length free.now }
+    ensures { (b : ℕ) → b < 64 → lane_bit b result ≡ start_bit reset (bit (lane b free.now) used) }
+{
+    match reset {
+        Reset::Zero => 0,
+        Reset::One => !0,
+        Reset::Free => free[used],
+    }
+}
+
+// How many words it takes.
+fn taken(reset: Reset) -> usize
+    ensures { result ≡ (if is_free reset then 1 else 0) }
+{
+    match reset {
+        Reset::Zero => 0,
+        Reset::One => 0,
+        Reset::Free => 1,
+    }
+}
+
+// Writes the state after a reset.
+pub(crate) fn write_start(product: &Product, free: &[u64], state: &mut [u64])
+    requires free { free_count product.now ≤ length free.now }
+    requires state { length state.old ≡ latches_of product.now }
+    ensures size { length state.new ≡ latches_of product.now }
+    ensures lanes { (b : ℕ) → b < 64 → IsStart product.now (lane b free.now) (lane b state.new) }
+{
+    let mut used = 0;
+    for i in 0..product.latches() {
+        let reset = product.reset(i);
+        state[i as usize] = start_word(reset, free, used);
+        used += taken(reset);
+    }
+}
