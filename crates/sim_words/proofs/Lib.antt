@@ -1,3 +1,4 @@
 pub mod Lanes
 pub mod Frames
 pub mod Runs
+pub mod Words

@@ -5,5 +5,7 @@
 mod kernel;
 mod sim;
 mod start;
+mod stimulus;
 
 pub use sim::SimState;
+pub use stimulus::Stimulus;

@@ -6,7 +6,7 @@ ghost use Rattle.sim_words.specs.Lanes.{lane, lane_bit};
 ghost use Rattle.sim_words.specs.Simulation.{HasFrame, HasNext, IsLastFrame, IsStart, free_count, next_frame};
 
 use crate::kernel::{frame_words, next_words};
-use crate::start::write_start;
+use crate::start::{count_free, write_start};
 use bit_rows::BitRow;
 use product_machine::Product;
 use std::alloc::{AllocError, Global};
@@ -48,6 +48,13 @@ impl<'p> SimState<'p> {
             words,
             state,
         })
+    }
+
+    /// The number of free latches, each of which takes a word at a reset.
+    pub fn free_latches(&self) -> u32
+        ensures { result ≡ free_count self.now.pair }
+    {
+        count_free(self.product)
     }
 
     /// Goes back before frame 0. The words are for the free latches, in the order of the state; a latch that is reset to 0

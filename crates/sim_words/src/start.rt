@@ -31,6 +31,17 @@ fn taken(reset: Reset) -> usize
     }
 }
 
+// The number of free latches.
+pub(crate) fn count_free(product: &Product) -> u32
+    ensures { result ≡ free_count product.now }
+{
+    let mut count = 0;
+    for i in 0..product.latches() {
+        count += taken(product.reset(i)) as u32;
+    }
+    count
+}
+
 // Writes the state after a reset.
 pub(crate) fn write_start(product: &Product, free: &[u64], state: &mut [u64])
     requires free { free_count product.now ≤ length free.now }
