@@ -5,3 +5,4 @@ pub mod LeftOut
 pub mod Verdicts
 pub mod Pairing
 pub mod Linking
+pub mod Trying

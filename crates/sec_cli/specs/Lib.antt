@@ -7,3 +7,4 @@ pub mod Answers
 pub mod Endings
 pub mod Reports
 pub mod Runs
+pub mod Plain

@@ -8,6 +8,8 @@ mod delivering;
 mod ending;
 mod lines;
 mod loading;
+#[cfg(test)]
+mod plain;
 mod replaying;
 mod telling;
 mod texts;

@@ -1,9 +1,14 @@
 ghost use Rattle.std.specs.Prelude.{◌≢◌};
 
 use super::*;
+use crate::plain::{few_free_bits, plain_classes};
+use aiger_file::read_netlist;
+use class_partition::Classes;
+use product_machine::Product;
 use sec_base::{MemShelf, MemSink, SureShelf, SureSink};
 use std::alloc::{AllocError, Global};
 use std::test::Fail;
+use verdict_stamp::greatest_classes;
 
 // What a run over two netlists and a trace answers.
 #[derive(Clone, Copy)]
@@ -357,6 +362,122 @@ fn holds(shelf: &Option<MemShelf>, name: &str, bytes: &[u8]) -> bool {
         },
         None => false,
     }
+}
+
+// The pair of two texts.
+fn pair_of(alloc: Global, left: &str, right: &str) -> Option<Product> {
+    let Ok(first) = read_netlist(alloc, left.as_bytes()) else {
+        return None;
+    };
+    let Ok(second) = read_netlist(alloc, right.as_bytes()) else {
+        return None;
+    };
+    match Product::new(alloc, first, second) {
+        Ok(product) => Some(product),
+        Err(_) => None,
+    }
+}
+
+// Whether two partitions are the same.
+fn are_same(a: &Classes, b: &Classes) -> bool {
+    if a.len() != b.len() {
+        return false;
+    }
+    for place in 0..a.len() {
+        if a.rep(place) != b.rep(place) {
+            return false;
+        }
+    }
+    true
+}
+
+// Whether the classes that the solver finds for k = 1 are those found by trying all paths.
+fn agrees_with_plain(alloc: Global, left: &str, right: &str) -> Result<bool, AllocError> {
+    let Some(product) = pair_of(alloc, left, right) else {
+        return Ok(false);
+    };
+    let Some(bits) = few_free_bits(&product) else {
+        return Ok(false);
+    };
+    let plain = plain_classes(alloc, &product, bits)?;
+    let version = greatest_classes(alloc, &product, 1)?;
+    Ok(are_same(&plain, version.classes()))
+}
+
+#[test]
+fn the_solver_finds_the_classes_of_all_paths(rt: HostRuntime) -> Result<(), Fail> {
+    let alloc = rt.alloc();
+    let free = "aag 1 0 1 1 0\n2 2 2\n2\n";
+    let and = "aag 5 2 2 1 1\n2\n4\n6 2\n8 4\n10\n10 6 8\n";
+    let retimed = "aag 4 2 1 1 1\n2\n4\n6 8\n6\n8 2 4\n";
+    for (left, right) in [
+        (TOGGLE, TOGGLE),
+        (TOGGLE, "aag 1 0 1 1 0\n2 3 1\n3\n"),
+        (TOGGLE, LOW),
+        (TOGGLE, free),
+        (free, free),
+        (LOW, RING),
+        (RING, RING),
+        (DELAY, MASKED),
+        (MASKED, MASKED),
+        (and, retimed),
+        (retimed, retimed),
+    ] {
+        assert!(rt; agrees_with_plain(alloc, left, right)?);
+    }
+    Ok(())
+}
+
+// Whether a check with these words ends with status 1 and one of two texts.
+fn differs_as(
+    alloc: Global,
+    left: &'static str,
+    right: &'static str,
+    one: &'static str,
+    other: &'static str,
+) -> Result<bool, AllocError> {
+    let words = "sec check left right";
+    if answers_so(alloc, &case(words, left, right, 1, one, ""))? {
+        return Ok(true);
+    }
+    answers_so(alloc, &case(words, left, right, 1, other, ""))
+}
+
+#[test]
+fn differences_of_one_frame_are_shown_by_some_run(rt: HostRuntime) -> Result<(), Fail> {
+    let alloc = rt.alloc();
+    let free = "aag 1 0 1 1 0\n2 2 2\n2\n";
+    assert!(rt;
+        differs_as(
+            alloc,
+            free,
+            free,
+            "different k=1 frame=0 output=0\n1\nb0\n01\n\n.\n",
+            "different k=1 frame=0 output=0\n1\nb0\n10\n\n.\n",
+        )?
+    );
+    assert!(rt;
+        differs_as(
+            alloc,
+            "aag 1 1 0 1 0\n2\n2\n",
+            "aag 1 1 0 1 0\n2\n3\n",
+            "different k=1 frame=0 output=0\n1\nb0\n\n0\n.\n",
+            "different k=1 frame=0 output=0\n1\nb0\n\n1\n.\n",
+        )?
+    );
+    let short = Row {
+        trace: "1\nb0\n0\n\n.\n",
+        ..case(
+            "sec replay left right trace",
+            TOGGLE,
+            LOW,
+            0,
+            "agrees frames=1\n",
+            "",
+        )
+    };
+    assert!(rt; answers_so(alloc, &short)?);
+    Ok(())
 }
 
 #[test]
