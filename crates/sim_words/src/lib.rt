@@ -6,6 +6,8 @@ mod kernel;
 mod sim;
 mod start;
 mod stimulus;
+#[cfg(test)]
+mod tests;
 
 pub use sim::SimState;
 pub use stimulus::Stimulus;
