@@ -88,7 +88,7 @@ pub fn greatest_classes<'p>(
     ensures k { IfOk result (λ v. v.k ≡ k) }
     ensures greatest { IfOk result (λ v. AreOfGreatest v.pair v.k v.classes) }
 {
-    let mut version = Version::first(alloc, product, k)?;
+    let mut version = Version::opening(alloc, product, k)?;
     loop {
         let (next, added) = round(alloc, version)?;
         version = next;

@@ -3,10 +3,13 @@
 ghost use Rattle.std.specs.Prelude.{◌≡◌, ◌<◌, length, IfOk};
 ghost use Rattle.circ_model.specs.Meaning.{IsRun, places_of, row_at};
 ghost use Rattle.circ_model.specs.Correspondence.{MaySplit};
+ghost use Rattle.sim_words.specs.Lanes.{lane};
+ghost use Rattle.sim_words.specs.Simulation.{HasFrame};
 ghost use Rattle.verdict_stamp.specs.Versions.{IsVector};
 
 use bit_rows::BitRow;
 use product_machine::{Path, Product, Scratch};
+use sim_words::SimState;
 use std::alloc::{AllocError, Global};
 use std::marker::Model;
 
@@ -57,6 +60,25 @@ impl<'p> Vector<'p> {
         product.values_at(run, t, &mut scratch);
         let mut row = BitRow::with_len(alloc, product.len())?;
         row.copy_from(scratch.values());
+        Ok(Vector::of(product, k, row))
+    }
+
+    /// The values of a lane of a simulation that has a frame: that frame of a run.
+    pub fn of_lane(
+        alloc: Global,
+        product: &'p Product,
+        k: u32,
+        sim: &SimState<'_>,
+        run: u32,
+    ) -> Result<Vector<'p>, AllocError>
+        requires pair { sim.now.pair ≡ product.now }
+        requires frame { HasFrame sim.now.frame }
+        requires run { run < 64 }
+        ensures { IfOk result (λ v. v ≡ record { pair = product.entry.now; k = k; bits = lane run sim.now.words }) }
+    {
+        let _frame = sim.frame();
+        let mut row = BitRow::with_len(alloc, product.len())?;
+        sim.column(run, &mut row);
         Ok(Vector::of(product, k, row))
     }
 

@@ -1,0 +1,53 @@
+//! The opening of a refinement: one class of all places, split by the first frames of 64 runs. What splits there needs no
+//! question to the solver.
+ghost use Rattle.std.specs.Prelude.{◌≡◌, ◌<◌, ◌≤◌, IfOk};
+ghost use Rattle.sim_words.specs.Simulation.{HasFrame};
+
+use crate::vector::Vector;
+use crate::version::Version;
+use product_machine::Product;
+use sim_words::{SimState, Stimulus};
+use std::alloc::{AllocError, Global};
+
+// Splits by each lane of a frame.
+fn split_by_lanes(
+    alloc: Global,
+    sim: &SimState<'_>,
+    version: &mut Version<'_>,
+) -> Result<(), AllocError>
+    requires pair { sim.now.pair ≡ version.old.pair }
+    requires frame { HasFrame sim.now.frame }
+    ensures product { version.new.pair ≡ version.old.pair }
+    ensures k { version.new.k ≡ version.old.k }
+{
+    for run in 0..64 {
+        let vector = Vector::of_lane(alloc, version.product(), version.k(), sim, run)?;
+        version.split_by(&vector);
+    }
+    Ok(())
+}
+
+impl<'p> Version<'p> {
+    /// The first version, split by frames 0 to 15 of 64 runs, whose free latches and inputs are the words of a stimulus with
+    /// seed 1: first a word for each free latch, then for each frame a word for each input.
+    pub fn opening(alloc: Global, product: &'p Product, k: u32) -> Result<Version<'p>, AllocError>
+        requires some { 0 < k }
+        requires few { k ≤ 16 }
+        ensures product { IfOk result (λ v. v.pair ≡ product.entry.now) }
+        ensures k { IfOk result (λ v. v.k ≡ k) }
+    {
+        let mut version = Version::first(alloc, product, k)?;
+        let mut sim = SimState::new(alloc, product)?;
+        let mut stimulus = Stimulus::new(1);
+        let mut free = vec![in alloc; 0u64; sim.free_latches() as usize]?;
+        stimulus.fill(free.as_mut_slice());
+        sim.reset(free.as_slice());
+        let mut inputs = vec![in alloc; 0u64; product.inputs() as usize]?;
+        for frame in 0..16u32 {
+            stimulus.fill(inputs.as_mut_slice());
+            sim.step(inputs.as_slice());
+            split_by_lanes(alloc, &sim, &mut version)?;
+        }
+        Ok(version)
+    }
+}
