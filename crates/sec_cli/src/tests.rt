@@ -223,6 +223,14 @@ fn pairs_that_differ_or_stay_open(rt: HostRuntime) -> Result<(), Fail> {
         ),
         case(
             "sec check left right",
+            LOW,
+            RING,
+            2,
+            "undecided k=1 signals=5 classes=5 unpaired=0\n",
+            "",
+        ),
+        case(
+            "sec check left right",
             TOGGLE,
             "aag 1 0 1 1 0\n2 3 1\n2\n",
             1,
@@ -428,43 +436,47 @@ fn the_solver_finds_the_classes_of_all_paths(rt: HostRuntime) -> Result<(), Fail
     Ok(())
 }
 
-// Whether a check with these words ends with status 1 and one of two texts.
+// Whether a check with these words ends with status 1 and one of these texts.
 fn differs_as(
     alloc: Global,
+    words: &'static str,
     left: &'static str,
     right: &'static str,
-    one: &'static str,
-    other: &'static str,
+    texts: &[&'static str],
 ) -> Result<bool, AllocError> {
-    let words = "sec check left right";
-    if answers_so(alloc, &case(words, left, right, 1, one, ""))? {
-        return Ok(true);
+    for text in texts {
+        if answers_so(alloc, &case(words, left, right, 1, text, ""))? {
+            return Ok(true);
+        }
     }
-    answers_so(alloc, &case(words, left, right, 1, other, ""))
+    Ok(false)
 }
 
 #[test]
-fn differences_of_one_frame_are_shown_by_some_run(rt: HostRuntime) -> Result<(), Fail> {
+fn differences_are_shown_by_some_run(rt: HostRuntime) -> Result<(), Fail> {
     let alloc = rt.alloc();
+    let words = "sec check left right";
     let free = "aag 1 0 1 1 0\n2 2 2\n2\n";
-    assert!(rt;
-        differs_as(
-            alloc,
-            free,
-            free,
-            "different k=1 frame=0 output=0\n1\nb0\n01\n\n.\n",
-            "different k=1 frame=0 output=0\n1\nb0\n10\n\n.\n",
-        )?
-    );
-    assert!(rt;
-        differs_as(
-            alloc,
-            "aag 1 1 0 1 0\n2\n2\n",
-            "aag 1 1 0 1 0\n2\n3\n",
-            "different k=1 frame=0 output=0\n1\nb0\n\n0\n.\n",
-            "different k=1 frame=0 output=0\n1\nb0\n\n1\n.\n",
-        )?
-    );
+    let two = [
+        "different k=1 frame=0 output=0\n1\nb0\n01\n\n.\n",
+        "different k=1 frame=0 output=0\n1\nb0\n10\n\n.\n",
+    ];
+    assert!(rt; differs_as(alloc, words, free, free, &two)?);
+    let input = "aag 1 1 0 1 0\n2\n2\n";
+    let turned = "aag 1 1 0 1 0\n2\n3\n";
+    let rows = [
+        "different k=1 frame=0 output=0\n1\nb0\n\n0\n.\n",
+        "different k=1 frame=0 output=0\n1\nb0\n\n1\n.\n",
+    ];
+    assert!(rt; differs_as(alloc, words, input, turned, &rows)?);
+    // The first input is 0; the others are free.
+    let four = [
+        "different k=3 frame=2 output=0\n1\nb0\n0000\n0\n0\n0\n.\n",
+        "different k=3 frame=2 output=0\n1\nb0\n0000\n0\n0\n1\n.\n",
+        "different k=3 frame=2 output=0\n1\nb0\n0000\n0\n1\n0\n.\n",
+        "different k=3 frame=2 output=0\n1\nb0\n0000\n0\n1\n1\n.\n",
+    ];
+    assert!(rt; differs_as(alloc, "sec check left right -k 3", DELAY, MASKED, &four)?);
     let short = Row {
         trace: "1\nb0\n0\n\n.\n",
         ..case(
