@@ -64,13 +64,25 @@ fn run_so(
     shelf_fails: Vec<u64>,
     out_fails: Vec<u64>,
 ) -> Result<Option<MemShelf>, AllocError> {
+    run_within(alloc, row, shelf_fails, out_fails, 400, 400)
+}
+
+// The same, with so much room in both sinks.
+fn run_within(
+    alloc: Global,
+    row: &Row,
+    shelf_fails: Vec<u64>,
+    out_fails: Vec<u64>,
+    out_room: usize,
+    err_room: usize,
+) -> Result<Option<MemShelf>, AllocError> {
     let words = words_of(alloc, row.words)?;
     let Some(mut shelf) = shelf_of(alloc, row, shelf_fails) else {
         return Ok(None);
     };
     let (Ok(mut out), Ok(mut err)) = (
-        MemSink::with_room(alloc, 400, out_fails),
-        MemSink::with_room(alloc, 400, Vec::new(alloc)),
+        MemSink::with_room(alloc, out_room, out_fails),
+        MemSink::with_room(alloc, err_room, Vec::new(alloc)),
     ) else {
         return Ok(None);
     };
@@ -489,6 +501,65 @@ fn differences_are_shown_by_some_run(rt: HostRuntime) -> Result<(), Fail> {
         )
     };
     assert!(rt; answers_so(alloc, &short)?);
+    Ok(())
+}
+
+// What replaying this text on the toggling latch and the constant answers.
+fn replay(trace: &'static str, status: u8, out: &'static str, err: &'static str) -> Row {
+    Row {
+        trace,
+        ..case("sec replay left right trace", TOGGLE, LOW, status, out, err)
+    }
+}
+
+#[test]
+fn traces_with_a_fault_are_refused(rt: HostRuntime) -> Result<(), Fail> {
+    let alloc = rt.alloc();
+    assert!(rt; answers_so(alloc, &replay("1\nb0\n0\n.\n", 0, "agrees frames=0\n", ""))?);
+    for (trace, err) in [
+        ("0\n", "sec: trace: line at line 1\n"),
+        ("1\nb1\n0\n\n.\n", "sec: trace: line at line 2\n"),
+        ("1\nb0\n00\n\n.\n", "sec: trace: length at line 3\n"),
+        ("1\nb0\nx\n\n.\n", "sec: trace: unknown at line 3\n"),
+        ("1\nb0\n1\n\n.\n", "sec: trace: reset at line 3\n"),
+        ("1\nb0\n0\n0\n.\n", "sec: trace: length at line 4\n"),
+        ("", "sec: trace: truncated at line 1\n"),
+        ("1", "sec: trace: truncated at line 1\n"),
+        ("1\n", "sec: trace: truncated at line 2\n"),
+        ("1\nb", "sec: trace: truncated at line 2\n"),
+        ("1\nb0", "sec: trace: truncated at line 2\n"),
+        ("1\nb0\n", "sec: trace: truncated at line 3\n"),
+        ("1\nb0\n0", "sec: trace: truncated at line 3\n"),
+        ("1\nb0\n0\n", "sec: trace: truncated at line 4\n"),
+        ("1\nb0\n0\n\n", "sec: trace: truncated at line 5\n"),
+        ("1\nb0\n0\n\n\n", "sec: trace: truncated at line 6\n"),
+        ("1\nb0\n0\n\n\n.", "sec: trace: truncated at line 6\n"),
+    ] {
+        assert!(rt; answers_so(alloc, &replay(trace, 4, "", err))?);
+    }
+    Ok(())
+}
+
+#[test]
+fn sinks_with_little_room_take_a_part(rt: HostRuntime) -> Result<(), Fail> {
+    let alloc = rt.alloc();
+    let words = "sec check left right -k 2 --trace made";
+    let cut = case(
+        words,
+        TOGGLE,
+        LOW,
+        6,
+        "different ",
+        "sec: output: write failed\n",
+    );
+    let shelf = run_within(alloc, &cut, Vec::new(alloc), Vec::new(alloc), 10, 400)?;
+    assert!(rt; holds(&shelf, "made", b"1\nb0\n0\n\n\n.\n"));
+    let second = case(words, TOGGLE, LOW, 5, "", "sec: right: read failed\n");
+    let shelf = run_so(alloc, &second, vec![in alloc; 1]?, Vec::new(alloc))?;
+    assert!(rt; shelf.is_some());
+    let part = case(words, TOGGLE, LOW, 5, "", "sec: l");
+    let shelf = run_within(alloc, &part, vec![in alloc; 0]?, Vec::new(alloc), 400, 6)?;
+    assert!(rt; shelf.is_some());
     Ok(())
 }
 
