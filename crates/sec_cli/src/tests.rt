@@ -64,17 +64,17 @@ fn run_so(
     shelf_fails: Vec<u64>,
     out_fails: Vec<u64>,
 ) -> Result<Option<MemShelf>, AllocError> {
-    run_within(alloc, row, shelf_fails, out_fails, 400, 400)
+    run_within(alloc, row, shelf_fails, out_fails, Vec::new(alloc), 400)
 }
 
-// The same, with so much room in both sinks.
+// The same, where calls of the error sink fail too, and the output has so much room.
 fn run_within(
     alloc: Global,
     row: &Row,
     shelf_fails: Vec<u64>,
     out_fails: Vec<u64>,
+    err_fails: Vec<u64>,
     out_room: usize,
-    err_room: usize,
 ) -> Result<Option<MemShelf>, AllocError> {
     let words = words_of(alloc, row.words)?;
     let Some(mut shelf) = shelf_of(alloc, row, shelf_fails) else {
@@ -82,7 +82,7 @@ fn run_within(
     };
     let (Ok(mut out), Ok(mut err)) = (
         MemSink::with_room(alloc, out_room, out_fails),
-        MemSink::with_room(alloc, err_room, Vec::new(alloc)),
+        MemSink::with_room(alloc, 400, err_fails),
     ) else {
         return Ok(None);
     };
@@ -154,6 +154,14 @@ fn pairs_that_are_proved(rt: HostRuntime) -> Result<(), Fail> {
             "sec check left right",
             and,
             retimed,
+            0,
+            "equivalent k=1 signals=8 classes=7\n",
+            "",
+        ),
+        case(
+            "sec check left right",
+            and,
+            "aig 4 2 1 1 1\n8\n6\n\x04\x02",
             0,
             "equivalent k=1 signals=8 classes=7\n",
             "",
@@ -311,6 +319,22 @@ fn files_that_are_refused(rt: HostRuntime) -> Result<(), Fail> {
             5,
             "",
             "sec: none: read failed\n",
+        ),
+        case(
+            "sec check left none",
+            "aag 2 0 0 1 2\n2\n2 4 4\n4 2 2\n",
+            TOGGLE,
+            4,
+            "",
+            "sec: left: cyclic at byte 0\n",
+        ),
+        case(
+            words,
+            TOGGLE,
+            "aig 4 2 1 1 1\n8\n6\n\x04",
+            4,
+            "",
+            "sec: right: truncated at byte 18\n",
         ),
         case(
             "sec replay left right none",
@@ -541,7 +565,7 @@ fn traces_with_a_fault_are_refused(rt: HostRuntime) -> Result<(), Fail> {
 }
 
 #[test]
-fn sinks_with_little_room_take_a_part(rt: HostRuntime) -> Result<(), Fail> {
+fn an_output_with_little_room_takes_a_part(rt: HostRuntime) -> Result<(), Fail> {
     let alloc = rt.alloc();
     let words = "sec check left right -k 2 --trace made";
     let cut = case(
@@ -552,14 +576,32 @@ fn sinks_with_little_room_take_a_part(rt: HostRuntime) -> Result<(), Fail> {
         "different ",
         "sec: output: write failed\n",
     );
-    let shelf = run_within(alloc, &cut, Vec::new(alloc), Vec::new(alloc), 10, 400)?;
+    let shelf = run_within(
+        alloc,
+        &cut,
+        Vec::new(alloc),
+        Vec::new(alloc),
+        Vec::new(alloc),
+        10,
+    )?;
     assert!(rt; holds(&shelf, "made", b"1\nb0\n0\n\n\n.\n"));
     let second = case(words, TOGGLE, LOW, 5, "", "sec: right: read failed\n");
     let shelf = run_so(alloc, &second, vec![in alloc; 1]?, Vec::new(alloc))?;
     assert!(rt; shelf.is_some());
-    let part = case(words, TOGGLE, LOW, 5, "", "sec: l");
-    let shelf = run_within(alloc, &part, vec![in alloc; 0]?, Vec::new(alloc), 400, 6)?;
-    assert!(rt; shelf.is_some());
+    Ok(())
+}
+
+#[test]
+fn an_error_sink_that_fails_takes_a_part(rt: HostRuntime) -> Result<(), Fail> {
+    let alloc = rt.alloc();
+    let words = "sec check left right -k 2 --trace made";
+    for (call, part) in [(0, ""), (1, "sec: "), (2, "sec: left"), (3, "sec: left: ")] {
+        let unread = case(words, TOGGLE, LOW, 5, "", part);
+        let none = vec![in alloc; 0]?;
+        let fails = vec![in alloc; call]?;
+        let shelf = run_within(alloc, &unread, none, Vec::new(alloc), fails, 400)?;
+        assert!(rt; shelf.is_some());
+    }
     Ok(())
 }
 
