@@ -35,6 +35,15 @@ impl<T: Copy + Drop> Arena<T> {
         }
     }
 
+    /// An equal arena.
+    pub fn copy(&self, alloc: Global) -> Result<Arena<T>, AllocError>
+        ensures { IfOk result (λ a. a ≡ self.now) }
+    {
+        let row = Vec::from_slice(alloc, self.row.as_slice())?;
+        let ends = Vec::from_slice(alloc, self.ends.as_slice())?;
+        Ok(Arena { row, ends })
+    }
+
     /// How many lists it has.
     #[tactic(auto, using(crate::proofs::Cutting::length_pieces))]
     pub fn len(&self) -> usize

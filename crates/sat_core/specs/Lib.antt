@@ -7,3 +7,4 @@ pub mod Solving
 pub mod Watching
 pub mod Signed
 pub mod Answers
+pub mod Ready

@@ -4,7 +4,7 @@ use Rattle.std.specs.List.{All, Contains}
 use Rattle.sat_core.specs.declared.watching.Sought.{Sought}
 use Rattle.sat_core.specs.declared.watching.Sought.TheVariants.{At, Rest}
 use Rattle.sat_core.specs.declared.watching.Seen.{Seen}
-use Rattle.sat_core.specs.declared.watching.Seen.TheVariants.{Stays, Moved, Conflict}
+use Rattle.sat_core.specs.declared.watching.Seen.TheVariants.{Stays, Moves, Conflict}
 use Rattle.sat_core.specs.declared.solving.Solver.{Solver}
 use Rattle.sat_core.specs.Derivations.{neg, clause_at}
 use Rattle.sat_core.specs.Trail.{StandsBelow, IsWrong}
@@ -27,7 +27,7 @@ IsConflict s c = (c < length s.db) × IsWrong s.trail.lits.items (length s.trail
 
 abbrev pub HasSeen : ℕ → List (List ℕ) → Solver → Solver → ℕ → Seen → Type 0
 HasSeen vars formula old new c Stays = Grows vars formula old new
-HasSeen vars formula old new c Moved = Grows vars formula old new
+HasSeen vars formula old new c (Moves l) = Grows vars formula old new
 HasSeen vars formula old new c Conflict = Grows vars formula old new × IsConflict new c
 
 abbrev pub HasSwept : ℕ → List (List ℕ) → Solver → Solver → Option ℕ → Type 0

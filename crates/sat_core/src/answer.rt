@@ -3,8 +3,7 @@
 ghost use Rattle.std.specs.Prelude.{◌≡◌, ◌≤◌, IfOk};
 ghost use Rattle.sat_core.specs.Answers.{IsAnswer, joined};
 
-use crate::edge::{bits_of, codes_of, log_of};
-use crate::solving::{Outcome, search};
+use crate::ready::Ready;
 use bit_rows::BitRow;
 use cnf_store::Cnf;
 use sat_log::Log;
@@ -33,11 +32,7 @@ pub fn solve_with(alloc: Global, shared: &Cnf, own: &Cnf) -> Result<Answer, Allo
     requires { shared.now.vars ≤ own.now.vars }
     ensures { IfOk result (IsAnswer (joined shared.now own.now)) }
 {
-    let formula = codes_of(alloc, shared, own)?;
-    match search(alloc, own.vars() as usize, &formula)? {
-        Outcome::Sat(row) => Ok(Answer::Sat(bits_of(alloc, &row)?)),
-        Outcome::Unsat(lines) => Ok(Answer::Unsat(log_of(alloc, &lines)?)),
-    }
+    Ready::new(alloc, shared)?.solve_with(alloc, own)
 }
 
 #[cfg(test)]

@@ -52,8 +52,8 @@ fn push_codes(clause: &[i32], vars: u32, codes: &mut Vec<u32>) -> Result<(), All
     Ok(())
 }
 
-// Appends a formula's clauses by codes.
-fn add_codes(
+/// Appends a formula's clauses by codes.
+pub fn add_codes(
     cnf: &Cnf,
     vars: u32,
     codes: &mut Vec<u32>,
@@ -70,20 +70,6 @@ fn add_codes(
         clauses.add(codes)?;
     }
     Ok(())
-}
-
-/// The clauses of a shared formula by codes, then those of the other.
-pub fn codes_of(alloc: Global, shared: &Cnf, own: &Cnf) -> Result<Arena<u32>, AllocError>
-    requires { shared.now.vars ≤ own.now.vars }
-    ensures value { IfOk result (λ db. signed_clauses db ≡ shared.now.clauses ++ own.now.clauses) }
-    ensures within { IfOk result (λ db. AreWithin own.now.vars db) }
-{
-    let vars = own.vars();
-    let mut clauses = Arena::new(alloc);
-    let mut codes = Vec::new(alloc);
-    add_codes(shared, vars, &mut codes, &mut clauses)?;
-    add_codes(own, vars, &mut codes, &mut clauses)?;
-    Ok(clauses)
 }
 
 // The literals of codes.

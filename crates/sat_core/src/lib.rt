@@ -8,12 +8,17 @@
 
 mod analysis;
 mod answer;
+mod chains;
+mod cone;
 mod edge;
+mod hints;
 mod logs;
 mod looking;
 mod ordering;
+mod ready;
 mod solving;
 mod trail;
 mod watching;
 
 pub use answer::{Answer, solve, solve_with};
+pub use ready::Ready;

@@ -8,11 +8,13 @@ ghost use Rattle.sat_core.specs.Solving.{Keeps, HasGone, IsOutcome, Standing};
 ghost use Rattle.sat_core.specs.Rank.{rank};
 
 use crate::analysis::{complement, learn, learn_nothing};
+use crate::chains::Watches;
+use crate::hints::Hints;
 use crate::logs::Line;
 use crate::looking::{Look, look_through};
 use crate::ordering::Order;
 use crate::trail::Trail;
-use crate::watching::{Watches, propagate, read_all};
+use crate::watching::{propagate, read_units};
 use cnf_store::Arena;
 use std::alloc::{AllocError, Global};
 
@@ -314,7 +316,7 @@ fn step(
     requires keeps { Keeps vars formula.now s.old }
     ensures { IfOk result (HasGone vars formula.now s.old s.new) }
 {
-    match propagate(alloc, vars, formula, s, w, from)? {
+    match propagate(vars, formula, s, w, from)? {
         Some(number) => meet_at(alloc, vars, formula, s, order, number),
         None => match order.pick(&s.trail.at) {
             Some(var) => guess(vars, formula, s, var, order.phase_of(var)),
@@ -381,20 +383,27 @@ fn is_set(lits: &[u32], at: &[usize], v: usize) -> bool
 }
 
 /// Whether an assignment satisfies all clauses, with one that does or with a derivation of the empty clause.
-pub fn search(alloc: Global, vars: usize, formula: &Arena<u32>) -> Result<Outcome, AllocError>
+pub fn search(
+    alloc: Global,
+    vars: usize,
+    formula: &Arena<u32>,
+    hints: Hints,
+) -> Result<Outcome, AllocError>
     requires few { vars < 2 ^ 31 }
     requires within { AreWithin vars formula.now }
     ensures { IfOk result (IsOutcome vars formula.now) }
 {
+    let Hints {
+        watches: mut w,
+        mut order,
+        units,
+    } = hints;
     let mut s = Solver {
-        db: copied(alloc, formula)?,
+        db: formula.copy(alloc)?,
         log: Vec::new(alloc),
         trail: Trail::new(alloc, vars)?,
     };
-    let mut w = Watches::new(alloc, vars)?;
-    let mut order = Order::new(alloc, vars)?;
-    w.attach(&s)?;
-    read_all(vars, formula, &mut s)?;
+    read_units(vars, formula, &mut s, units.as_slice())?;
     let mut restarts: u32 = 0;
     let mut conflicts: u32 = 0;
     let mut from = 0;
@@ -404,7 +413,7 @@ pub fn search(alloc: Global, vars: usize, formula: &Arena<u32>) -> Result<Outcom
             conflicts = 0;
             restart(vars, formula, &mut s, &mut order)?;
             from = s.trail.lits.len();
-            w.forget_at(&s, formula.len(), restarts);
+            w.forget_at(&s.db, formula.len(), restarts);
         } else {
             let known = s.db.len();
             match step(alloc, vars, formula, &mut s, &mut w, &mut order, from)? {
@@ -414,7 +423,7 @@ pub fn search(alloc: Global, vars: usize, formula: &Arena<u32>) -> Result<Outcom
             }
             if s.db.len() > known {
                 conflicts = conflicts.saturating_add(1);
-                w.attach(&s)?;
+                w.attach(&s.db, &s.trail)?;
                 raise_last(&s, &mut order);
             }
             from = s.trail.lits.len().saturating_sub(1);
@@ -431,15 +440,4 @@ fn pace(restarts: u32) -> u32 {
         5 => 200,
         _ => 100,
     }
-}
-
-// Another arena with the same clauses.
-fn copied(alloc: Global, clauses: &Arena<u32>) -> Result<Arena<u32>, AllocError>
-    ensures { IfOk result (λ c. c ≡ clauses.now) }
-{
-    let mut copied = Arena::new(alloc);
-    for i in 0..clauses.len() {
-        copied.add(clauses.get(i))?;
-    }
-    Ok(copied)
 }

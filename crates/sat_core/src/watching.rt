@@ -10,19 +10,11 @@ ghost use Rattle.sat_core.specs.Watching.{IsSought, HasSeen, Grows, HasSwept};
 ghost use Rattle.sat_core.specs.declared.watching.Sought.TheVariants.{Rest};
 
 use crate::analysis::complement;
+use crate::chains::{END, Watches};
 use crate::looking::{Found, Worth, inspect, value_of};
 use crate::solving::{Solver, add_implied};
 use cnf_store::Arena;
-use std::alloc::{AllocError, Global};
-use std::mem;
-
-/// Which clauses to look at when a literal falls. No fact rests on it.
-#[derive(Drop)]
-pub struct Watches {
-    lists: Vec<Vec<u32>>,
-    pairs: Vec<(u32, u32)>,
-    head: usize,
-}
+use std::alloc::AllocError;
 
 /// What a search for a literal that isn't false finds.
 #[derive(Drop)]
@@ -35,7 +27,8 @@ pub enum Sought {
 #[derive(Drop)]
 pub enum Seen {
     Stays,
-    Moved,
+    /// To this literal.
+    Moves(u32),
     Conflict,
 }
 
@@ -79,28 +72,22 @@ fn sort_out(lit: u32, other: u32, lits: &[u32], at: &[usize]) -> Sought
     }
 }
 
-// Visits a clause that a fallen literal leads to.
+// Visits a clause of which a watched literal fell, and the other is this one.
 fn visit(
     vars: usize,
     formula: &Arena<u32>,
     s: &mut Solver,
-    pairs: &mut [(u32, u32)],
-    lists: &mut [Vec<u32>],
-    fallen: u32,
+    other: u32,
     number: usize,
 ) -> Result<Seen, AllocError>
     requires { Keeps vars formula.now s.old }
     ensures { IfOk result (HasSeen vars formula.now s.old s.new number) }
 {
-    let other = other_watch(pairs, number, fallen);
     if number >= s.db.len() || is_true(s, other) {
         return Ok(Seen::Stays);
     }
     match seek_in(vars, formula, s, other, number) {
-        Sought::At(found) => {
-            watch(pairs, lists, found, other, number)?;
-            Ok(Seen::Moved)
-        }
+        Sought::At(found) => Ok(Seen::Moves(found)),
         Sought::Rest(has) => settle(vars, formula, s, other, has, number),
     }
 }
@@ -112,22 +99,6 @@ fn seek_in(vars: usize, formula: &Arena<u32>, s: &Solver, other: u32, number: us
     ensures { IsSought s.now.trail.lits.items (clause_at s.now.db (number + 1)) other result }
 {
     seek(s.db.get(number), other, &s.trail.lits, &s.trail.at)
-}
-
-// Watches a clause by another literal.
-fn watch(
-    pairs: &mut [(u32, u32)],
-    lists: &mut [Vec<u32>],
-    found: u32,
-    other: u32,
-    number: usize,
-) -> Result<(), AllocError> {
-    if number < pairs.len() && (found as usize) < lists.len() {
-        pairs[number] = (found, other);
-        let hint = u32::try_from(number).unwrap_or(0);
-        lists[found as usize].push(hint)?;
-    }
-    Ok(())
 }
 
 fn is_true(s: &Solver, lit: u32) -> bool {
@@ -144,15 +115,6 @@ fn is_free(s: &Solver, lit: u32) -> bool
 {
     let var = lit as usize / 2;
     var < s.trail.at.len() && s.trail.at[var] == 0
-}
-
-// The other literal that a clause is watched by.
-fn other_watch(pairs: &[(u32, u32)], number: usize, fallen: u32) -> u32 {
-    if number >= pairs.len() {
-        return u32::MAX;
-    }
-    let (first, second) = pairs[number];
-    if first == fallen { second } else { first }
 }
 
 // Takes what a clause implies of which all but one literal are false, or that it is false.
@@ -197,53 +159,8 @@ fn is_wrong(s: &Solver, number: usize) -> bool
     }
 }
 
-// Visits the clauses of a list, and keeps those that stay.
-fn run(
-    vars: usize,
-    formula: &Arena<u32>,
-    s: &mut Solver,
-    pairs: &mut [(u32, u32)],
-    lists: &mut [Vec<u32>],
-    fallen: u32,
-    list: &mut Vec<u32>,
-) -> Result<Option<usize>, AllocError>
-    requires { Keeps vars formula.now s.old }
-    ensures { IfOk result (HasSwept vars formula.now s.old s.new) }
-{
-    let mut kept = 0;
-    for j in 0..list.len() {
-        let hint = list[j];
-        match visit(vars, formula, s, pairs, lists, fallen, hint as usize)? {
-            Seen::Moved => {}
-            Seen::Stays => {
-                list[kept] = hint;
-                kept += 1;
-            }
-            Seen::Conflict => {
-                shift(list, kept, j);
-                return Ok(Some(hint as usize));
-            }
-        }
-    }
-    list.truncate(kept);
-    Ok(None)
-}
-
-// Moves the end of the list down.
-fn shift(list: &mut Vec<u32>, kept: usize, from: usize)
-    requires { kept ≤ from }
-{
-    let mut to = kept;
-    for k in from..list.len() {
-        list[to] = list[k];
-        to += 1;
-    }
-    list.truncate(to);
-}
-
 // Visits the clauses that a fallen literal leads to.
 fn sweep(
-    alloc: Global,
     vars: usize,
     formula: &Arena<u32>,
     s: &mut Solver,
@@ -253,29 +170,25 @@ fn sweep(
     requires { Keeps vars formula.now s.old }
     ensures { IfOk result (HasSwept vars formula.now s.old s.new) }
 {
-    let place = fallen as usize;
-    if place >= w.lists.len() {
-        return Ok(None);
+    let mut before = END;
+    let mut watch = w.first(fallen);
+    for _step in 0..w.len() {
+        if watch == END {
+            return Ok(None);
+        }
+        let next = w.next(watch);
+        match visit(vars, formula, s, w.other(watch), watch as usize / 2)? {
+            Seen::Stays => before = watch,
+            Seen::Moves(lit) => w.shift(fallen, before, watch, lit),
+            Seen::Conflict => return Ok(Some(watch as usize / 2)),
+        }
+        watch = next;
     }
-    let mut list = mem::replace(&mut w.lists[place], Vec::new(alloc));
-    let found = run(
-        vars,
-        formula,
-        s,
-        w.pairs.as_mut_slice(),
-        w.lists.as_mut_slice(),
-        fallen,
-        &mut list,
-    )?;
-    if place < w.lists.len() {
-        w.lists[place] = list;
-    }
-    Ok(found)
+    Ok(None)
 }
 
 /// Takes all that follows from this place of the trail on, or finds a clause that is false.
 pub fn propagate(
-    alloc: Global,
     vars: usize,
     formula: &Arena<u32>,
     s: &mut Solver,
@@ -289,7 +202,7 @@ pub fn propagate(
     'queue: while head < s.trail.lits.len() {
         let lit = s.trail.lits[head];
         head += 1;
-        let found = sweep(alloc, vars, formula, s, w, complement(lit))?;
+        let found = sweep(vars, formula, s, w, complement(lit))?;
         if found.is_some() {
             return Ok(found);
         }
@@ -297,13 +210,19 @@ pub fn propagate(
     Ok(None)
 }
 
-/// Reads every clause once, and takes what is implied.
-pub fn read_all(vars: usize, formula: &Arena<u32>, s: &mut Solver) -> Result<(), AllocError>
+/// Reads these clauses, counted from 0, and takes what is implied.
+pub fn read_units(
+    vars: usize,
+    formula: &Arena<u32>,
+    s: &mut Solver,
+    units: &[u32],
+) -> Result<(), AllocError>
     requires few { vars < 2 ^ 31 }
     requires keeps { Keeps vars formula.now s.old }
     ensures { OnOk result (Keeps vars formula.now s.new) }
 {
-    for number in 0..s.db.len() {
+    for unit in units {
+        let number = *unit as usize;
         if number < s.db.len() {
             if let Found::Unit(lit) = inspect_in(vars, formula, s, number) {
                 add_implied(vars, formula, s, lit, number as u64 + 1)?;
@@ -319,117 +238,4 @@ fn inspect_in(vars: usize, formula: &Arena<u32>, s: &Solver, number: usize) -> F
     ensures { IsFound s.now.trail.lits.items s.now.trail.at.items (clause_at s.now.db (number + 1)) result }
 {
     inspect(s.db.get(number), &s.trail.lits, &s.trail.at)
-}
-
-// The two literals that fall last.
-fn last_two(clause: &[u32], lits: &[u32], at: &[usize]) -> (u32, u32) {
-    let mut first = (u32::MAX, 0);
-    let mut second = (u32::MAX, 0);
-    for lit in clause {
-        let (a, b) = better(*lit, score(*lit, lits, at), first, second);
-        first = a;
-        second = b;
-    }
-    (first.0, second.0)
-}
-
-fn score(lit: u32, lits: &[u32], at: &[usize]) -> usize {
-    let var = lit as usize / 2;
-    if var >= at.len() {
-        return 0;
-    }
-    let place = at[var];
-    if place == 0 {
-        return usize::MAX;
-    }
-    if place <= lits.len() && lits[place - 1] == lit {
-        usize::MAX
-    } else {
-        place
-    }
-}
-
-fn better(
-    lit: u32,
-    points: usize,
-    first: (u32, usize),
-    second: (u32, usize),
-) -> ((u32, usize), (u32, usize)) {
-    if points > first.1 {
-        ((lit, points), first)
-    } else if points > second.1 {
-        (first, (lit, points))
-    } else {
-        (first, second)
-    }
-}
-
-impl Watches {
-    pub fn new(alloc: Global, vars: usize) -> Result<Watches, AllocError>
-        requires { vars < 2 ^ 31 }
-    {
-        let mut lists = Vec::new(alloc);
-        for _ in 0..2 * vars {
-            lists.push(Vec::new(alloc))?;
-        }
-        Ok(Watches {
-            lists,
-            pairs: Vec::new(alloc),
-            head: 0,
-        })
-    }
-
-    /// Watches the clauses that aren't watched yet.
-    pub fn attach(&mut self, s: &Solver) -> Result<(), AllocError> {
-        for number in self.pairs.len()..s.db.len() {
-            let (first, second) = last_two(s.db.get(number), &s.trail.lits, &s.trail.at);
-            self.pairs.push((first, second))?;
-            self.add(first, number)?;
-            self.add(second, number)?;
-        }
-        Ok(())
-    }
-
-    /// Forgets the watches of long learned clauses, but for the newest. The clauses stay.
-    pub fn forget(&mut self, s: &Solver, first: usize, newest: usize) {
-        for list in self.lists.iter_mut() {
-            thin_out(list, s, first, newest);
-        }
-    }
-
-    /// The same at every eighth restart.
-    pub fn forget_at(&mut self, s: &Solver, first: usize, restarts: u32) {
-        let known = s.db.len();
-        if restarts % 8 == 0 && known > first {
-            self.forget(s, first, known - (known - first) / 4);
-        }
-    }
-
-    fn add(&mut self, lit: u32, number: usize) -> Result<(), AllocError> {
-        if (lit as usize) < self.lists.len() {
-            let hint = u32::try_from(number).unwrap_or(0);
-            self.lists[lit as usize].push(hint)?;
-        }
-        Ok(())
-    }
-}
-
-// Keeps what is short, given or new.
-fn thin_out(list: &mut Vec<u32>, s: &Solver, first: usize, newest: usize) {
-    let mut kept = 0;
-    for j in 0..list.len() {
-        let number = list[j];
-        if stays(s, number as usize, first, newest) {
-            list[kept] = number;
-            kept += 1;
-        }
-    }
-    list.truncate(kept);
-}
-
-fn stays(s: &Solver, number: usize, first: usize, newest: usize) -> bool {
-    if number >= s.db.len() {
-        return false;
-    }
-    number < first || number >= newest || s.db.get(number).len() <= 5
 }

@@ -1,0 +1,203 @@
+//! Which clauses to look at when a literal falls: each clause stands in the chains of two of its literals, its watches. The
+//! chains lie in flat arrays, so that a copy is three rows of numbers. They are hints: no fact rests on them.
+
+ghost use Rattle.std.specs.Prelude.{◌<◌, ◌^◌};
+
+use crate::trail::Trail;
+use cnf_store::Arena;
+use std::alloc::{AllocError, Global};
+
+/// What stands after the last watch of a chain.
+pub const END: u32 = 4294967295;
+
+/// The watches: clause c, counted from 0, has the watches 2c and 2c + 1.
+#[derive(Drop)]
+pub struct Watches {
+    // by literal: the first watch of its chain
+    heads: Vec<u32>,
+    // by watch: its literal, and the next watch of that literal's chain
+    lits: Vec<u32>,
+    nexts: Vec<u32>,
+}
+
+impl Watches {
+    /// No clauses are watched.
+    pub fn new(alloc: Global, vars: usize) -> Result<Watches, AllocError>
+        requires { vars < 2 ^ 31 }
+    {
+        Ok(Watches {
+            heads: vec![in alloc; END; 2 * vars]?,
+            lits: Vec::new(alloc),
+            nexts: Vec::new(alloc),
+        })
+    }
+
+    /// The same chains, with room for the literals of so many variables.
+    pub fn copy(&self, alloc: Global, vars: usize) -> Result<Watches, AllocError>
+        requires { vars < 2 ^ 31 }
+    {
+        let mut heads = Vec::from_slice(alloc, self.heads.as_slice())?;
+        for _ in heads.len()..2 * vars {
+            heads.push(END)?;
+        }
+        Ok(Watches {
+            heads,
+            lits: Vec::from_slice(alloc, self.lits.as_slice())?,
+            nexts: Vec::from_slice(alloc, self.nexts.as_slice())?,
+        })
+    }
+
+    /// How many watches there are.
+    pub fn len(&self) -> usize {
+        self.lits.len()
+    }
+
+    /// The first watch of a literal's chain.
+    pub fn first(&self, lit: u32) -> u32 {
+        if (lit as usize) < self.heads.len() {
+            self.heads[lit as usize]
+        } else {
+            END
+        }
+    }
+
+    /// The next watch of the same chain.
+    pub fn next(&self, watch: u32) -> u32 {
+        if (watch as usize) < self.nexts.len() {
+            self.nexts[watch as usize]
+        } else {
+            END
+        }
+    }
+
+    /// The literal of the same clause's other watch.
+    pub fn other(&self, watch: u32) -> u32 {
+        let twin = (watch ^ 1) as usize;
+        if twin < self.lits.len() {
+            self.lits[twin]
+        } else {
+            END
+        }
+    }
+
+    /// Moves a watch from the chain of a literal, in which it comes after `before`, to that of another.
+    pub fn shift(&mut self, from: u32, before: u32, watch: u32, to: u32) {
+        let next = self.next(watch);
+        if before == END {
+            if (from as usize) < self.heads.len() {
+                self.heads[from as usize] = next;
+            }
+        } else if (before as usize) < self.nexts.len() {
+            self.nexts[before as usize] = next;
+        }
+        self.put(watch, to);
+    }
+
+    // Puts a watch before the chain of a literal.
+    fn put(&mut self, watch: u32, lit: u32) {
+        let first = self.first(lit);
+        if (watch as usize) < self.nexts.len() && (watch as usize) < self.lits.len() {
+            self.lits[watch as usize] = lit;
+            self.nexts[watch as usize] = first;
+            if (lit as usize) < self.heads.len() {
+                self.heads[lit as usize] = watch;
+            }
+        }
+    }
+
+    // Puts a watch before the chain of its own literal.
+    fn put_again(&mut self, watch: u32) {
+        if (watch as usize) < self.lits.len() {
+            let lit = self.lits[watch as usize];
+            self.put(watch, lit);
+        }
+    }
+
+    // Adds a watch.
+    fn add(&mut self, lit: u32) -> Result<(), AllocError> {
+        let watch = u32::try_from(self.lits.len()).unwrap_or(END);
+        self.lits.push(lit)?;
+        self.nexts.push(END)?;
+        self.put(watch, lit);
+        Ok(())
+    }
+
+    /// Watches the clauses that aren't watched yet.
+    pub fn attach(&mut self, db: &Arena<u32>, trail: &Trail) -> Result<(), AllocError> {
+        for number in self.lits.len() / 2..db.len() {
+            let (first, second) = last_two(db.get(number), &trail.lits, &trail.at);
+            self.add(first)?;
+            self.add(second)?;
+        }
+        Ok(())
+    }
+
+    // Forgets the watches of long learned clauses, but for the newest. The clauses stay.
+    fn forget(&mut self, db: &Arena<u32>, first: usize, newest: usize) {
+        self.heads.fill(END);
+        for watch in 0..self.lits.len() {
+            if stays(db, watch / 2, first, newest) {
+                self.put_again(u32::try_from(watch).unwrap_or(END));
+            }
+        }
+    }
+
+    /// The same at every eighth restart.
+    pub fn forget_at(&mut self, db: &Arena<u32>, first: usize, restarts: u32) {
+        let known = db.len();
+        if restarts % 8 == 0 && known > first {
+            self.forget(db, first, known - (known - first) / 4);
+        }
+    }
+}
+
+// Whether a clause is short, given or new.
+fn stays(db: &Arena<u32>, number: usize, first: usize, newest: usize) -> bool {
+    if number >= db.len() {
+        return false;
+    }
+    number < first || number >= newest || db.get(number).len() <= 5
+}
+
+// The two literals that fall last.
+fn last_two(clause: &[u32], lits: &[u32], at: &[usize]) -> (u32, u32) {
+    let mut first = (END, 0);
+    let mut second = (END, 0);
+    for lit in clause {
+        let (a, b) = better(*lit, score(*lit, lits, at), first, second);
+        first = a;
+        second = b;
+    }
+    (first.0, second.0)
+}
+
+fn score(lit: u32, lits: &[u32], at: &[usize]) -> usize {
+    let var = lit as usize / 2;
+    if var >= at.len() {
+        return 0;
+    }
+    let place = at[var];
+    if place == 0 {
+        return usize::MAX;
+    }
+    if place <= lits.len() && lits[place - 1] == lit {
+        usize::MAX
+    } else {
+        place
+    }
+}
+
+fn better(
+    lit: u32,
+    points: usize,
+    first: (u32, usize),
+    second: (u32, usize),
+) -> ((u32, usize), (u32, usize)) {
+    if points > first.1 {
+        ((lit, points), first)
+    } else if points > second.1 {
+        (first, (lit, points))
+    } else {
+        (first, second)
+    }
+}
