@@ -1,6 +1,7 @@
 -- What a question over frames comes to: a path on which two literals differ, or that there is none.
-use Rattle.std.specs.Prelude.{◌≡◌, ℕ, ◌+◌, ◌-◌, ◌≤◌, ◌<◌, List, Bool, not, Some}
+use Rattle.std.specs.Prelude.{◌≡◌, ℕ, ◌+◌, ◌-◌, ◌≤◌, ◌<◌, List, Bool, not, Some, None}
 use Rattle.circ_model.specs.Meaning.{Path, row_at, value_in, literal_value}
+use Rattle.cnf_store.specs.Clauses.{Formula}
 use Rattle.sat_log.specs.Derivations.{IsAccepted}
 use Rattle.frame_unroll.specs.declared.question.Question.{Question}
 use Rattle.frame_unroll.specs.declared.found.Seen.{Seen}
@@ -32,6 +33,11 @@ pub record IsSeen (u : Unrolling) (q : Question) (s : Seen) : Type 0 where
 abbrev pub IsFound : Unrolling → Question → Found → Type 0
 IsFound u q (NoPath log) = NoneSought u q × IsAccepted (formula_of (asking u q)) log
 IsFound u q (OnPath s) = IsSeen u q s
+
+-- no question stands yet, and the formula is that of the frames
+pub record ArePrepared (u : Unrolling) (formula : Formula) : Type 0 where
+  pub asked : u.asked ≡ None
+  pub are : formula ≡ formula_of u
 
 -- two literals in frame t of an assignment with n places a frame: they are equal, or they differ
 abbrev pub EqualIn : ℕ → List Bool → ℕ → ℕ → ℕ → Type 0

@@ -6,7 +6,7 @@ ghost use Rattle.circ_model.specs.Meaning.{IsSoundPair, places_of, literal_value
 ghost use Rattle.cnf_store.specs.Clauses.{satisfies};
 ghost use Rattle.frame_unroll.specs.Found.{IsSeen, IsFound, asks, asking, EqualIn, DiffersIn};
 ghost use Rattle.frame_unroll.specs.Frames.{values};
-ghost use Rattle.frame_unroll.specs.Unrolled.{AreFramesOf, IsUnrolling, asked_clauses, clauses_of, variables_of};
+ghost use Rattle.frame_unroll.specs.Unrolled.{AreFramesOf, IsUnrolling, asked_clauses, clauses_of, formula_of, variables_of};
 
 use crate::path::{part_of, read_path};
 use crate::question::{Question, add_asked};
@@ -15,9 +15,10 @@ use bit_rows::BitRow;
 use circ_model::Lit;
 use cnf_store::Cnf;
 use product_machine::Path;
-use sat_core::{Answer, solve_with};
+use sat_core::{Answer, Ready};
 use sat_log::Log;
 use std::alloc::{AllocError, Global};
+use std::marker::Model;
 
 /// A path on which two literals differ: the least frame of those asked in which they do, and the values of all places there.
 #[derive(Drop)]
@@ -39,7 +40,34 @@ pub enum Found {
     Path(Seen),
 }
 
-impl<'p> Unrolled<'p> {
+/// Frames without a question, made ready for the solver once for many.
+#[derive(Drop)]
+pub struct Prepared<'p> {
+    frames: Unrolled<'p>,
+    ready: Ready,
+}
+
+impl<'p> Model for Prepared<'p> {
+    ghost use Rattle.frame_unroll.specs.Found.{ArePrepared};
+    ghost use Rattle.frame_unroll.specs.Unrolled.{Unrolling};
+
+    ghost Value = { Unrolling };
+
+    ghost view = { λ p. p.frames };
+
+    ghost invariant = { λ p. ArePrepared p.frames p.ready };
+}
+
+impl<'p> Prepared<'p> {
+    /// Makes frames ready.
+    pub fn new(alloc: Global, frames: Unrolled<'p>) -> Result<Prepared<'p>, AllocError>
+        requires none { frames.asked ≡ None }
+        ensures { IfOk result (λ p. p ≡ frames.entry) }
+    {
+        let ready = Ready::new(alloc, frames.cnf())?;
+        Ok(Prepared { frames, ready })
+    }
+
     /// Whether two literals differ, in some of the frames first to last, on some path that the frames ask for: counted from 0,
     /// both included. It tells the first of those frames in which they do. An `Err` is want of memory.
     pub fn find(
@@ -50,7 +78,29 @@ impl<'p> Unrolled<'p> {
         first: u32,
         last: u32,
     ) -> Result<Found, AllocError>
+        requires left { IsLiteral self.now.pair a }
+        requires right { IsLiteral self.now.pair b }
+        requires order { first ≤ last }
+        requires within { last < self.now.frames }
+        ensures { IfOk result (IsFound self.now (asks a b first last)) }
+    {
+        self.frames.answer(alloc, &self.ready, a, b, first, last)
+    }
+}
+
+impl<'p> Unrolled<'p> {
+    // What the solver makes of a question beside these frames.
+    fn answer(
+        &self,
+        alloc: Global,
+        ready: &Ready,
+        a: Lit,
+        b: Lit,
+        first: u32,
+        last: u32,
+    ) -> Result<Found, AllocError>
         requires none { self.now.asked ≡ None }
+        requires ready { ready.now ≡ formula_of self.now }
         requires left { IsLiteral self.now.pair a }
         requires right { IsLiteral self.now.pair b }
         requires order { first ≤ last }
@@ -65,8 +115,7 @@ impl<'p> Unrolled<'p> {
             count: last - first + 1,
         };
         let own = self.beside(alloc, question)?;
-        let frames = self.cnf();
-        match solve_with(alloc, frames, &own)? {
+        match ready.solve_with(alloc, &own)? {
             Answer::Unsat(log) => Ok(Found::None(log)),
             Answer::Sat(row) => Ok(Found::Path(self.seen_in(alloc, &row, question)?)),
         }

@@ -5,7 +5,7 @@ ghost use Rattle.circ_model.specs.Correspondence.{IsLiteral};
 ghost use Rattle.circ_model.specs.Meaning.{places_of};
 ghost use Rattle.cnf_store.specs.Clauses.{IsLiteral as IsVariable, AreLiterals, literal_true, clause_true, satisfies};
 
-use crate::{Found, Unrolled};
+use crate::{Found, Prepared, Unrolled};
 use aig_graph::{BuildFault, NetBuilder, Netlist};
 use bit_rows::BitRow;
 use circ_model::Lit;
@@ -195,8 +195,7 @@ fn has_bits(row: &BitRow, bits: u32) -> bool {
 type Row = (Lit, Lit, u32, u32, Option<(u32, u32)>);
 
 // Whether a question over so many frames comes to what its row says.
-fn comes_out(alloc: Global, frames: &Unrolled<'_>, count: u32, row: Row) -> Result<bool, AllocError>
-    requires none { frames.now.asked ≡ None }
+fn comes_out(alloc: Global, frames: &Prepared<'_>, count: u32, row: Row) -> Result<bool, AllocError>
     requires places { places_of frames.now.pair ≡ 3 }
     requires frames { frames.now.frames ≡ count }
 {
@@ -215,7 +214,7 @@ fn comes_out(alloc: Global, frames: &Unrolled<'_>, count: u32, row: Row) -> Resu
 fn reset_answers(alloc: Global, product: &Product) -> Result<bool, AllocError>
     requires { places_of product.now ≡ 3 }
 {
-    let frames = Unrolled::reset_frames(alloc, product, 3)?;
+    let frames = Prepared::new(alloc, Unrolled::reset_frames(alloc, product, 3)?)?;
     let (low, left, right) = (Lit::of(0, false), Lit::of(1, false), Lit::of(2, false));
     for row in [
         (left, right, 0, 2, None),
@@ -240,7 +239,7 @@ fn step_answers(alloc: Global, product: &Product) -> Result<bool, AllocError>
     if classes.len() != 3 {
         return Ok(false);
     }
-    let frames = Unrolled::step_frames(alloc, product, 1, &classes)?;
+    let frames = Prepared::new(alloc, Unrolled::step_frames(alloc, product, 1, &classes)?)?;
     let (low, left, right) = (Lit::of(0, false), Lit::of(1, false), Lit::of(2, false));
     for row in [
         (left, right, 0, 1, None),

@@ -5,13 +5,13 @@ ghost use Rattle.frame_unroll.specs.Unrolled.{from_reset};
 ghost use Rattle.induction_base.specs.Earliest.{IsEarliest};
 
 use circ_model::Lit;
-use frame_unroll::{Found, Seen, Unrolled};
+use frame_unroll::{Found, Prepared, Seen};
 use std::alloc::{AllocError, Global};
 
 // The least frame below a bound in which two literals differ on some run, with a run on which they do.
 pub(crate) fn earliest(
     alloc: Global,
-    frames: &Unrolled<'_>,
+    frames: &Prepared<'_>,
     a: Lit,
     b: Lit,
     below: u32,

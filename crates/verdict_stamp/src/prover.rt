@@ -13,7 +13,7 @@ use crate::version::Version;
 use bit_rows::BitRow;
 use circ_model::Lit;
 use class_partition::{Classes, Needed};
-use frame_unroll::{Found, Unrolled};
+use frame_unroll::{Found, Prepared, Unrolled};
 use std::alloc::{AllocError, Global};
 use std::marker::Model;
 
@@ -30,8 +30,8 @@ pub enum Proof<'v, 'p> {
 #[derive(Drop)]
 pub struct Prover<'p> {
     current: Version<'p>,
-    base: Unrolled<'p>,
-    step: Unrolled<'p>,
+    base: Prepared<'p>,
+    step: Prepared<'p>,
 }
 
 impl<'p> Model for Prover<'p> {
@@ -66,8 +66,14 @@ impl<'p> Prover<'p> {
         ensures { IfOk result (λ p. p ≡ version.entry) }
     {
         let product = version.product();
-        let base = Unrolled::reset_frames(alloc, product, version.k())?;
-        let step = Unrolled::step_frames(alloc, product, version.k(), version.classes())?;
+        let base = Prepared::new(
+            alloc,
+            Unrolled::reset_frames(alloc, product, version.k())?,
+        )?;
+        let step = Prepared::new(
+            alloc,
+            Unrolled::step_frames(alloc, product, version.k(), version.classes())?,
+        )?;
         Ok(Prover {
             current: version,
             base,
