@@ -12,10 +12,10 @@ use Rattle.aiger_codec.specs.Renumbering.{says, latch_by, gate_by, renumbered}
 use Rattle.aiger_codec.specs.BinaryWriting.{next_text, deltas_text, binary_text}
 use Rattle.aiger_codec.proofs.Numbering.{Numbers, same_latches, same_outputs, same_gates}
 
-abbrev counts_of : Netlist → List ℕ
+abbrev pub counts_of : Netlist → List ℕ
 counts_of net = length net.inputs ∷ length net.latches ∷ length net.outputs ∷ length net.gates ∷ []
 
-same_counts : (net : Netlist) → counts_of (renumbered net) ≡ counts_of net
+pub same_counts : (net : Netlist) → counts_of (renumbered net) ≡ counts_of net
 same_counts net =
     rw (length-range_with_len 1 (length net.inputs), length-map net.latches (latch_by (place_in net)), length-map net.outputs (literal_by (place_in net)), length-map net.gates (gate_by (place_in net))) refl
 

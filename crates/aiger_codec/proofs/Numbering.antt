@@ -61,7 +61,7 @@ are_latches net table s h k d lt =
 pub are_outputs : (net : Netlist) (table : List ℕ) → IsSound net → Numbers net table → All (λ lit. lit / 2 < length table) net.outputs
 are_outputs net table s h k d lt = defined_within net table _ s h (s.all_defined.outputs k d lt)
 
-low_literal : (p n lit : ℕ) (b : Bool) → p < n → literal p b < 2 * n
+pub low_literal : (p n lit : ℕ) (b : Bool) → p < n → literal p b < 2 * n
 low_literal p n lit true lt = omega arith
 low_literal p n lit false lt = omega arith
 
