@@ -93,7 +93,7 @@ fn number_of(lit: Lit) -> u64
 
 // A line of a number and others.
 #[tactic(auto, unfolding(crate::specs::Writing::more_text))]
-fn push_line(first: u64, others: &[u64], into: &mut Vec<u8>) -> Result<(), AllocError>
+pub(crate) fn push_line(first: u64, others: &[u64], into: &mut Vec<u8>) -> Result<(), AllocError>
     ensures { OnOk result (into.new.items ≡ into.old.items ++ line_text first others.now) }
 {
     push_number(first, into)?;

@@ -3,3 +3,6 @@ pub mod OneComes
 pub mod OneReading
 pub mod SpelledFile
 pub mod Written
+mod InTurn
+mod NewNumbers
+mod WrittenBinary

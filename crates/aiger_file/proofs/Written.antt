@@ -29,11 +29,11 @@ use Rattle.aiger_file.proofs.SpelledFile.{after, file_read}
 -- ---- a section
 
 -- the line of an item
-record Written (s : Section) (text : List ℕ) (ns : List ℕ) (x : Item s) : Type 0 where
-  line : SpellsLine text ns
-  enough : least s ≤ length ns
-  few : length ns ≤ most s
-  is : IsLine s ns x
+pub record Written (s : Section) (text : List ℕ) (ns : List ℕ) (x : Item s) : Type 0 where
+  pub line : SpellsLine text ns
+  pub enough : least s ≤ length ns
+  pub few : length ns ≤ most s
+  pub is : IsLine s ns x
 
 record Lines (s : Section) (text : List ℕ) (xs : List (Item s)) : Type 0 where
   lines : List (List ℕ)
@@ -48,7 +48,7 @@ lines_written s text numbers (x ∷ xs) all =
     let others = lines_written s text numbers xs (λ k d lt. all (suc k) d (omega arith)) in
     record { lines = numbers x ∷ others.lines; spelled = (text x, lines_text text xs, one.line, one.enough, one.few, others.spelled, refl); each = (one.is, others.each) }
 
-section_written : (s : Section) (text numbers : Item s → List ℕ) (xs : List (Item s)) → All (λ x. Written s (text x) (numbers x) x) xs → SpellsSection s (lines_text text xs) xs
+pub section_written : (s : Section) (text numbers : Item s → List ℕ) (xs : List (Item s)) → All (λ x. Written s (text x) (numbers x) x) xs → SpellsSection s (lines_text text xs) xs
 section_written s text numbers xs all = let w = lines_written s text numbers xs all in record { lines = w.lines; spelled = w.spelled; each = w.each }
 
 -- ---- its items
@@ -56,7 +56,7 @@ section_written s text numbers xs all = let w = lines_written s text numbers xs 
 input_written : (v : ℕ) → v ≤ 1000000 → Written Inputs (input_text v) (2 * v ∷ []) v
 input_written v small = record { line = line_spelled (2 * v) [] (omega arith) tt; enough = omega arith; few = omega arith; is = refl }
 
-reset_again : (v next : ℕ) (r : Reset) → 0 < v → reset_of v (get_or (2 * v ∷ next ∷ reset_numbers v r) 2 0) ≡ Some r
+pub reset_again : (v next : ℕ) (r : Reset) → 0 < v → reset_of v (get_or (2 * v ∷ next ∷ reset_numbers v r) 2 0) ≡ Some r
 reset_again v next Zero some = refl
 reset_again v next One some = refl
 reset_again v next Free some =
@@ -75,7 +75,7 @@ latch_written l some small low =
     let line = latch_line l.var l.next l.reset small low in
     record { line = line.0; enough = omega arith; few = line.1; is = (refl, refl, reset_again l.var l.next l.reset some) }
 
-output_written : (lit : ℕ) → lit ≤ 2000001 → Written Outputs (output_text lit) (lit ∷ []) lit
+pub output_written : (lit : ℕ) → lit ≤ 2000001 → Written Outputs (output_text lit) (lit ∷ []) lit
 output_written lit low = record { line = line_spelled lit [] (omega arith) tt; enough = omega arith; few = omega arith; is = refl }
 
 gate_written : (q : Gate) → q.var ≤ 1000000 → q.left ≤ 2000001 → q.right ≤ 2000001 → Written Gates (gate_text q) (2 * q.var ∷ q.left ∷ q.right ∷ []) q

@@ -6,6 +6,7 @@
 
 mod fault;
 mod files;
+mod gate;
 mod mem_shelf;
 mod mem_sink;
 mod number;
@@ -16,6 +17,7 @@ mod sure;
 mod text;
 
 pub use fault::{Failed, LoadFault, Memory, StoreFault};
+pub use gate::{FreeGate, Gate};
 pub use mem_shelf::MemShelf;
 pub use mem_sink::MemSink;
 pub use number::write_number;

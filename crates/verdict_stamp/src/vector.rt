@@ -89,4 +89,26 @@ impl<'p> Vector<'p> {
     {
         &self.row
     }
+
+    /// The pair of netlists.
+    pub fn product(&self) -> &'p Product
+        ensures pair { result.now ≡ self.now.pair }
+    {
+        self.product
+    }
+
+    /// Over how many frames it was found.
+    pub fn k(&self) -> u32
+        ensures { result ≡ self.now.k }
+    {
+        self.depth
+    }
+
+    /// The values alone.
+    pub fn into_bits(self) -> BitRow
+        ensures bits { result ≡ self.entry.bits }
+        ensures may { IsVector self.entry }
+    {
+        self.row
+    }
 }
