@@ -6,15 +6,16 @@ ghost use Rattle.circ_model.specs.Meaning.{IsSoundPair, places_of, literal_value
 ghost use Rattle.cnf_store.specs.Clauses.{satisfies};
 ghost use Rattle.frame_unroll.specs.Found.{IsSeen, IsFound, asks, asking, EqualIn, DiffersIn};
 ghost use Rattle.frame_unroll.specs.Frames.{values};
-ghost use Rattle.frame_unroll.specs.Unrolled.{AreFramesOf, IsUnrolling, asked_clauses, clauses_of, formula_of, variables_of};
+ghost use Rattle.frame_unroll.specs.Unrolled.{AreFramesOf, IsUnrolling, after_classes, asked_clauses, clauses_of, formula_of, from_reset, variables_of};
 
 use crate::path::{part_of, read_path};
 use crate::question::{Question, add_asked};
 use crate::unrolled::Unrolled;
 use bit_rows::BitRow;
 use circ_model::Lit;
+use class_partition::Classes;
 use cnf_store::Cnf;
-use product_machine::Path;
+use product_machine::{Path, Product};
 use sat_core::{Answer, Ready};
 use sat_log::Log;
 use std::alloc::{AllocError, Global};
@@ -66,6 +67,33 @@ impl<'p> Prepared<'p> {
     {
         let ready = Ready::new(alloc, frames.cnf())?;
         Ok(Prepared { frames, ready })
+    }
+
+    /// The first t frames from reset, ready.
+    pub fn reset_frames(
+        alloc: Global,
+        product: &'p Product,
+        t: u32,
+    ) -> Result<Prepared<'p>, AllocError>
+        requires some { 0 < t }
+        requires few { t ≤ 64 }
+        ensures { IfOk result (λ p. p ≡ from_reset product.entry.now t) }
+    {
+        Prepared::new(alloc, Unrolled::reset_frames(alloc, product, t)?)
+    }
+
+    /// k frames from any state in which the needed pairs of the classes hold, and one more, ready.
+    pub fn step_frames(
+        alloc: Global,
+        product: &'p Product,
+        k: u32,
+        classes: &Classes,
+    ) -> Result<Prepared<'p>, AllocError>
+        requires few { k < 64 }
+        requires places { length classes.now.least ≡ places_of product.now }
+        ensures { IfOk result (λ p. p ≡ after_classes product.entry.now k classes.now) }
+    {
+        Prepared::new(alloc, Unrolled::step_frames(alloc, product, k, classes)?)
     }
 
     /// Whether two literals differ, in some of the frames first to last, on some path that the frames ask for: counted from 0,

@@ -214,7 +214,7 @@ fn comes_out(alloc: Global, frames: &Prepared<'_>, count: u32, row: Row) -> Resu
 fn reset_answers(alloc: Global, product: &Product) -> Result<bool, AllocError>
     requires { places_of product.now ≡ 3 }
 {
-    let frames = Prepared::new(alloc, Unrolled::reset_frames(alloc, product, 3)?)?;
+    let frames = Prepared::reset_frames(alloc, product, 3)?;
     let (low, left, right) = (Lit::of(0, false), Lit::of(1, false), Lit::of(2, false));
     for row in [
         (left, right, 0, 2, None),
@@ -239,7 +239,7 @@ fn step_answers(alloc: Global, product: &Product) -> Result<bool, AllocError>
     if classes.len() != 3 {
         return Ok(false);
     }
-    let frames = Prepared::new(alloc, Unrolled::step_frames(alloc, product, 1, &classes)?)?;
+    let frames = Prepared::step_frames(alloc, product, 1, &classes)?;
     let (low, left, right) = (Lit::of(0, false), Lit::of(1, false), Lit::of(2, false));
     for row in [
         (left, right, 0, 1, None),

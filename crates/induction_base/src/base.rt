@@ -4,7 +4,7 @@ ghost use Rattle.circ_model.specs.Correspondence.{IsLiteral};
 ghost use Rattle.induction_base.specs.Base.{IsBase};
 
 use circ_model::Lit;
-use frame_unroll::{Found, Prepared, Unrolled};
+use frame_unroll::{Found, Prepared};
 use product_machine::{Path, Product};
 use sat_log::Log;
 use std::alloc::{AllocError, Global};
@@ -33,7 +33,7 @@ pub fn base_holds(
     requires right { IsLiteral product.now b }
     ensures { IfOk result (IsBase product.now k a b) }
 {
-    let frames = Prepared::new(alloc, Unrolled::reset_frames(alloc, product, k)?)?;
+    let frames = Prepared::reset_frames(alloc, product, k)?;
     match frames.find(alloc, a, b, 0, k - 1)? {
         Found::None(log) => Ok(Base::Holds(log)),
         Found::Path(seen) => Ok(Base::Breaks(seen.path, seen.frame)),

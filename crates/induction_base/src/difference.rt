@@ -5,7 +5,7 @@ ghost use Rattle.induction_base.specs.Least.{IsLeastOrNone, IsLeastOf};
 
 use crate::earliest::earliest;
 use crate::rows::first_rows;
-use frame_unroll::{Prepared, Unrolled};
+use frame_unroll::Prepared;
 use product_machine::{Path, Product};
 use std::alloc::{AllocError, Global};
 
@@ -50,7 +50,7 @@ fn search(alloc: Global, product: &Product, k: u32) -> Result<Option<Diff>, Allo
     requires few { k ≤ 64 }
     ensures { IfOk result (IsLeastOf product.now k (outputs_of product.now)) }
 {
-    let frames = Prepared::new(alloc, Unrolled::reset_frames(alloc, product, k)?)?;
+    let frames = Prepared::reset_frames(alloc, product, k)?;
     let _cells = product.cells();
     let mut bound = k;
     let mut best: Option<Diff> = None;

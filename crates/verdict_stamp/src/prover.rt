@@ -13,7 +13,7 @@ use crate::version::Version;
 use bit_rows::BitRow;
 use circ_model::Lit;
 use class_partition::{Classes, Needed};
-use frame_unroll::{Found, Prepared, Unrolled};
+use frame_unroll::{Found, Prepared};
 use std::alloc::{AllocError, Global};
 use std::marker::Model;
 
@@ -66,14 +66,8 @@ impl<'p> Prover<'p> {
         ensures { IfOk result (λ p. p ≡ version.entry) }
     {
         let product = version.product();
-        let base = Prepared::new(
-            alloc,
-            Unrolled::reset_frames(alloc, product, version.k())?,
-        )?;
-        let step = Prepared::new(
-            alloc,
-            Unrolled::step_frames(alloc, product, version.k(), version.classes())?,
-        )?;
+        let base = Prepared::reset_frames(alloc, product, version.k())?;
+        let step = Prepared::step_frames(alloc, product, version.k(), version.classes())?;
         Ok(Prover {
             current: version,
             base,
