@@ -6,6 +6,8 @@
 
 mod fault;
 mod laws;
+mod reading;
 
 pub use fault::{CertFault, CertKind, Checked};
 pub use laws::supported_outputs_agree;
+pub use reading::verify;
