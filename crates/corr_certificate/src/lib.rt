@@ -7,6 +7,8 @@
 mod fault;
 mod laws;
 mod reading;
+#[cfg(test)]
+mod tests;
 
 pub use fault::{CertFault, CertKind, Checked};
 pub use laws::supported_outputs_agree;
