@@ -8,3 +8,4 @@ pub mod Agreeing
 pub mod Answering
 pub mod Going
 pub mod Sizes
+pub mod Unique

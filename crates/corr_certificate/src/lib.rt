@@ -11,5 +11,5 @@ mod reading;
 mod tests;
 
 pub use fault::{CertFault, CertKind, Checked};
-pub use laws::supported_outputs_agree;
+pub use laws::{one_answer, supported_outputs_agree};
 pub use reading::verify;
