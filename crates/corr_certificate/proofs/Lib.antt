@@ -1,0 +1,11 @@
+pub mod Ranges
+pub mod Places
+pub mod Naming
+pub mod Supporting
+pub mod Passing
+pub mod Joining
+pub mod Agreeing
+pub mod Answering
+pub mod Going
+pub mod Sizes
+pub mod Unique
