@@ -8,3 +8,4 @@ pub mod Verdicts
 pub mod Places
 pub mod Unsplit
 pub mod Kept
+mod Tallying

@@ -1,6 +1,8 @@
 ghost use Rattle.std.specs.Prelude.{◌≡◌, ◌<◌, ◌≤◌, ◌+◌, ◌/◌, ◌↔◌, ℕ, IsTrue, length, IfOk};
 ghost use Rattle.class_partition.specs.Classes.{least_of, phase_of, ArePartition, AreTogether, Pairs, IsSplit, one_class, class_count, split_of, HoldIn, IsNextNeeded};
+ghost use Rattle.class_partition.specs.Steps.{classes_of};
 
+use crate::least::count_least;
 use crate::split::split_places;
 use bit_rows::BitRow;
 use circ_model::Lit;
@@ -51,6 +53,22 @@ impl Classes {
         let mut phase = BitRow::with_len(alloc, n)?;
         phase.copy_from(phases);
         let count = if n == 0 { 0 } else { 1 };
+        Ok(Classes {
+            least,
+            phase,
+            other,
+            count,
+        })
+    }
+
+    /// The classes with these least places and phases.
+    pub fn of_least(alloc: Global, least: Vec<u32>, phase: BitRow) -> Result<Classes, AllocError>
+        requires { ArePartition (length least.items) (classes_of least.items phase) }
+        ensures { IfOk result (λ c. c ≡ classes_of least.items phase) }
+    {
+        let n = phase.len();
+        let other = vec![in alloc; 0u32; n as usize]?;
+        let count = count_least(least.as_slice());
         Ok(Classes {
             least,
             phase,

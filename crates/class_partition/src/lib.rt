@@ -4,6 +4,7 @@
 
 mod classes;
 mod laws;
+mod least;
 mod split;
 #[cfg(test)]
 mod tests;

@@ -1,0 +1,5 @@
+pub mod Places
+pub mod Supporting
+pub mod Passing
+pub mod Joining
+pub mod Agreeing

@@ -1,0 +1,5 @@
+pub mod Names
+pub mod ClassLines
+pub mod Parts
+pub mod Certificate
+pub mod Laws
