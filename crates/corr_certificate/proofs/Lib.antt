@@ -3,3 +3,5 @@ pub mod Supporting
 pub mod Passing
 pub mod Joining
 pub mod Agreeing
+pub mod Unseen
+pub mod Adding

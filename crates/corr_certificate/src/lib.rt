@@ -6,6 +6,8 @@
 
 mod fault;
 mod laws;
+mod writing;
 
 pub use fault::{CertFault, CertKind, Checked};
 pub use laws::supported_outputs_agree;
+pub use writing::write_cert;
