@@ -127,7 +127,7 @@ all_members places first classes partition lt =
     ap (λ n. members_from 0 n classes first) whole ∙ skip_to places 0 first classes first (omega arith) (omega (arith, lt)) (below places first classes partition lt)
 
 -- a place that isn't its class's least has no members
-no_members : (places first : ℕ) (classes : Classes) → ArePartition places classes → first < places → (least_of classes first ≢ first) → members_from 0 places classes first ≡ []
+pub no_members : (places first : ℕ) (classes : Classes) → ArePartition places classes → first < places → (least_of classes first ≢ first) → members_from 0 places classes first ≡ []
 no_members places first classes partition lt apart =
     let whole : places ≡ places - 0 = omega arith in
     let none : places - places ≡ 0 = omega arith in
@@ -142,7 +142,7 @@ first_members places first next classes lt least is =
     member_here places first classes first lt least
     ∙ ap (λ ms. first ∷ ms) (skip_to places (first + 1) next classes first is.at is.within (λ q ge less. subst (λ (r : ℕ). least_of classes q ≢ r) least (is.between q ge less)))
 
-long_line : (pair : Pair) (classes : Classes) (first a b : ℕ) (rest : List ℕ) → class_line_of pair classes first (a ∷ b ∷ rest) ≡ codes "class" ++ (flat_map (member_text pair classes first) (a ∷ b ∷ rest) ++ codes "\n")
+pub long_line : (pair : Pair) (classes : Classes) (first a b : ℕ) (rest : List ℕ) → class_line_of pair classes first (a ∷ b ∷ rest) ≡ codes "class" ++ (flat_map (member_text pair classes first) (a ∷ b ∷ rest) ++ codes "\n")
 long_line pair classes first a b rest = let long = le-ltb (length (a ∷ b ∷ rest)) 2 (omega arith) in rw long refl
 
 -- the line of a class of two or more

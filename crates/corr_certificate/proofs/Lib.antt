@@ -5,3 +5,9 @@ pub mod Joining
 pub mod Agreeing
 pub mod Unseen
 pub mod Adding
+pub mod NamesAgain
+pub mod HeadAgain
+pub mod PartsAgain
+pub mod JoinAgain
+pub mod LinesAgain
+pub mod WholeAgain

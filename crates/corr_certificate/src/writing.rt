@@ -10,6 +10,7 @@ ghost use Rattle.sat_log.specs.Derivations.{IsAccepted, Line};
 ghost use Rattle.sat_log.specs.Lines.{AreLines};
 ghost use Rattle.sat_log.specs.Texts.{HasText, log_text};
 ghost use Rattle.class_text.specs.ClassLines.{name_of};
+ghost use Rattle.corr_certificate.specs.Certificate.{IsSupported, PairOutputs};
 ghost use Rattle.corr_certificate.specs.Parts.{base_formula, step_formula};
 ghost use Rattle.corr_certificate.specs.Writing.{head_text, AreFrames, AreProved, AddsMember, AddsMembers, IsCertificate};
 
@@ -172,7 +173,29 @@ fn push_members(
     Ok(())
 }
 
-/// The certificate of classes that are a correspondence for k and pair all outputs: it supports the pair.
+// The text, of which the contract tells what stands in it.
+fn text_of(
+    alloc: Global,
+    product: &Product,
+    k: u32,
+    classes: &Classes,
+) -> Result<Vec<u8>, AllocError>
+    requires proved { AreProved product.now k classes.now }
+    ensures { IfOk result (λ text. IsCertificate product.now k classes.now text.items) }
+{
+    let mut text = Vec::new(alloc);
+    push_head(product, k, &mut text)?;
+    push_class_lines(alloc, product, classes, &mut text)?;
+    let frames = Frames {
+        base: Unrolled::reset_frames(alloc, product, k)?,
+        step: Unrolled::step_frames(alloc, product, k, classes)?,
+    };
+    push_members(alloc, product, k, classes, &frames, &mut text)?;
+    Ok(text)
+}
+
+/// The certificate of classes that are a correspondence for k and pair all outputs: it supports the pair, so reading it finds
+/// no fault. It errs for want of memory alone.
 pub fn write_cert(
     alloc: Global,
     product: &Product,
@@ -183,16 +206,12 @@ pub fn write_cert(
     requires few { k ≤ 16 }
     requires places { length classes.now.least ≡ places_of product.now }
     requires stable { IsStable product.now k classes.now }
+    requires outputs { PairOutputs product.now classes.now }
     ensures text { IfOk result (λ text. IsCertificate product.now k classes.now text.items) }
+    ensures supported { IfOk result (λ text. IsSupported product.now text.items) }
 {
+    let _cells = product.cells();
     let _places = classes.len();
-    let mut text = Vec::new(alloc);
-    push_head(product, k, &mut text)?;
-    push_class_lines(alloc, product, classes, &mut text)?;
-    let frames = Frames {
-        base: Unrolled::reset_frames(alloc, product, k)?,
-        step: Unrolled::step_frames(alloc, product, k, classes)?,
-    };
-    push_members(alloc, product, k, classes, &frames, &mut text)?;
+    let text = text_of(alloc, product, k, classes)?;
     Ok(text)
 }
