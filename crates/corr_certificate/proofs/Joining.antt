@@ -1,5 +1,5 @@
 -- The classes that are read are a partition.
-use Rattle.std.proofs.Common.{◌≡◌, ◌∙◌, ◌<◌, ◌≤◌, ℕ, ◌+◌, ◌==◌, leb, Bool, true, false, List, [], ◌∷◌, slice_index, refl, sym, ap, subst, arith, ⊎_elim, length-set}
+use Rattle.std.proofs.Common.{length, ◌≡◌, ◌∙◌, ◌<◌, ◌≤◌, ℕ, ◌+◌, ◌==◌, leb, Bool, true, false, List, [], ◌∷◌, slice_index, refl, sym, ap, subst, arith, ⊎_elim, length-set}
 use Rattle.std.specs.Prelude.{if◌then◌else◌, drop, Option, Some, None, unwrap_or, Result, Ok, Err, slice_set, codes}
 use Rattle.std.specs.List.{range_with_len}
 use Rattle.std.proofs.lemmas.Bool.{cases_eq, eqb-true, leb-true, and_parts}
@@ -191,3 +191,9 @@ lines_partition pair j n (l ∷ ls) p is e = by (λ i holds due. lines_partition
 -- the classes of a certificate's class lines
 pub read_partition : (pair : Pair) (n : ℕ) (ls : List (List ℕ)) (p : ClassPart) → classes_from pair (none_joined (places_of pair)) n ls ≡ Ok p → ArePartition (places_of pair) p.classes
 read_partition pair n ls p e = lines_partition pair (none_joined (places_of pair)) n ls p (none_open (places_of pair)) e
+
+pub are_read : (pair : Pair) (j : Joining) (n places line : ℕ) (ls rest : List (List ℕ)) (c : Classes) → places ≡ places_of pair → j ≡ none_joined places → classes_from pair j n ls ≡ Ok (class_part c line rest)
+    → ArePartition (length c.least) c × (length c.least ≡ places_of pair)
+are_read pair j n places line ls rest c e f h =
+    let is : ArePartition (places_of pair) c = read_partition pair n ls (class_part c line rest) (ap (λ (i : Joining). classes_from pair i n ls) (sym (f ∙ ap none_joined e)) ∙ h) in
+    (subst (λ (m : ℕ). ArePartition m c) (sym is.least_len) is, is.least_len)

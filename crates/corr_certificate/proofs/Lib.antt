@@ -1,4 +1,6 @@
+pub mod Ranges
 pub mod Places
+pub mod Naming
 pub mod Supporting
 pub mod Passing
 pub mod Joining
@@ -11,3 +13,6 @@ pub mod PartsAgain
 pub mod JoinAgain
 pub mod LinesAgain
 pub mod WholeAgain
+pub mod Answering
+pub mod Going
+pub mod Sizes

@@ -6,8 +6,12 @@
 
 mod fault;
 mod laws;
+mod reading;
+#[cfg(test)]
+mod tests;
 mod writing;
 
 pub use fault::{CertFault, CertKind, Checked};
 pub use laws::supported_outputs_agree;
+pub use reading::verify;
 pub use writing::write_cert;
