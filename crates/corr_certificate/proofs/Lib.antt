@@ -16,3 +16,4 @@ pub mod WholeAgain
 pub mod Answering
 pub mod Going
 pub mod Sizes
+pub mod Unique

@@ -1,8 +1,13 @@
--- The law of certificates, as a statement.
-use Rattle.std.specs.Prelude.{ℕ, ◌<◌, List}
+-- The laws of certificates, as statements.
+use Rattle.std.specs.Prelude.{◌≡◌, ℕ, ◌<◌, List}
 use Rattle.circ_model.specs.Meaning.{Pair, IsSoundPair, outputs_of}
 use Rattle.circ_model.specs.Laws.{AgreeForEver}
-use Rattle.corr_certificate.specs.Certificate.{IsSupported}
+use Rattle.corr_certificate.specs.declared.fault.Checked.{Checked}
+use Rattle.corr_certificate.specs.Certificate.{IsChecked, IsSupported}
+
+-- a text has one first fault, or none
+abbrev pub OneAnswer : Type 0
+OneAnswer = (pair : Pair) (bytes : List ℕ) (r s : Checked) → IsChecked pair bytes r → IsChecked pair bytes s → r ≡ s
 
 -- the outputs agree in every frame of every run
 abbrev pub SupportedAgree : Type 0

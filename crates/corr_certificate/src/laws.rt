@@ -1,5 +1,10 @@
-//! The law over the definition. The function has an empty body; its contract is the law.
-ghost use Rattle.corr_certificate.specs.Laws.{SupportedAgree};
+//! Laws over the definition. Each function has an empty body; its contract is the law.
+ghost use Rattle.corr_certificate.specs.Laws.{OneAnswer, SupportedAgree};
+
+/// A text has one first fault, or none.
+pub fn one_answer()
+    ensures { OneAnswer }
+{}
 
 /// A certificate without a fault supports that the outputs agree in every frame of every run.
 #[tactic(auto, using(crate::proofs::Agreeing::supported_agree))]

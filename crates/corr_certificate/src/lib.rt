@@ -12,6 +12,6 @@ mod tests;
 mod writing;
 
 pub use fault::{CertFault, CertKind, Checked};
-pub use laws::supported_outputs_agree;
+pub use laws::{one_answer, supported_outputs_agree};
 pub use reading::verify;
 pub use writing::write_cert;
