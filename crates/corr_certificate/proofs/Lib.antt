@@ -17,3 +17,4 @@ pub mod Answering
 pub mod Going
 pub mod Sizes
 pub mod Unique
+pub mod Greatest
