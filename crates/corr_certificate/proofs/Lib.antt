@@ -5,7 +5,16 @@ pub mod Supporting
 pub mod Passing
 pub mod Joining
 pub mod Agreeing
+pub mod Unseen
+pub mod Adding
+pub mod NamesAgain
+pub mod HeadAgain
+pub mod PartsAgain
+pub mod JoinAgain
+pub mod LinesAgain
+pub mod WholeAgain
 pub mod Answering
 pub mod Going
 pub mod Sizes
 pub mod Unique
+pub mod Greatest

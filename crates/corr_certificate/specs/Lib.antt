@@ -3,3 +3,4 @@ pub mod ClassLines
 pub mod Parts
 pub mod Certificate
 pub mod Laws
+pub mod Writing

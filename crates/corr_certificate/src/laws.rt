@@ -1,5 +1,5 @@
 //! Laws over the definition. Each function has an empty body; its contract is the law.
-ghost use Rattle.corr_certificate.specs.Laws.{OneAnswer, SupportedAgree};
+ghost use Rattle.corr_certificate.specs.Laws.{GreatestAreStable, OneAnswer, SupportedAgree};
 
 /// A text has one first fault, or none.
 pub fn one_answer()
@@ -10,4 +10,10 @@ pub fn one_answer()
 #[tactic(auto, using(crate::proofs::Agreeing::supported_agree))]
 pub fn supported_outputs_agree()
     ensures { SupportedAgree }
+{}
+
+/// The classes of the greatest correspondence are a correspondence, as a certificate's writer asks.
+#[tactic(auto, using(crate::proofs::Greatest::greatest_stable))]
+pub fn greatest_classes_are_stable()
+    ensures { GreatestAreStable }
 {}

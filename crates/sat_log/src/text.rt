@@ -1,6 +1,8 @@
 //! A log as a text, both ways.
 ghost use Rattle.std.specs.Prelude.{◌≡◌, ◌++◌, Ok, OnOk};
-ghost use Rattle.sat_log.specs.Texts.{log_text};
+ghost use Rattle.std.specs.List.{All};
+ghost use Rattle.sat_log.specs.Lines.{AreLines};
+ghost use Rattle.sat_log.specs.Texts.{HasText, log_text};
 ghost use Rattle.sat_log.specs.Parts.{log_from, log_of, IsDue};
 ghost use Rattle.sat_log.specs.declared.text.LogError.TheVariants.{Refused};
 
@@ -29,6 +31,8 @@ pub enum LogError {
 pub fn write_log(log: &Log, into: &mut Vec<u8>) -> Result<(), AllocError>
     ensures text { OnOk result (into.new.items ≡ into.old.items ++ log_text log.now) }
     ensures again { OnOk result (log_of (log_text log.now) ≡ Ok log.now) }
+    ensures lines { OnOk result (AreLines log.now) }
+    ensures hints { OnOk result (All HasText log.now) }
 {
     for i in 0..log.len() {
         push_step(log.clause(i), log.hints(i), into)?;

@@ -31,3 +31,9 @@ returns-clause-again c =
     let test = c.loop-i-test.false in
     let le : length c.args.log.now ≤ c.loop-i.i = omega (arith, test, c.len-i-end.ensures.value) in
     log_read c.args.log.now c.len-i-end.ensures.lines (small_all c.args.log.now c.loop-i.i le c.loop-i.invariant.small)
+
+pub returns-clause-hints : goal.returns-clause-hints
+returns-clause-hints c =
+    let test = c.loop-i-test.false in
+    let le : length c.args.log.now ≤ c.loop-i.i = omega (arith, test, c.len-i-end.ensures.value) in
+    small_all c.args.log.now c.loop-i.i le c.loop-i.invariant.small

@@ -1,0 +1,217 @@
+//! Writing a certificate: the classes, and for each needed pair the logs of its two questions, which are solved again. The
+//! frames are made once, and lent to each question. This module alone uses the solver.
+ghost use Rattle.std.specs.Prelude.{◌≡◌, ◌<◌, ◌≤◌, ◌/◌, ◌-◌, ◌++◌, ◌∷◌, ℕ, List, IfOk, OnOk, codes, decimal, length};
+ghost use Rattle.std.specs.List.{All};
+ghost use Rattle.circ_model.specs.Meaning.{places_of};
+ghost use Rattle.class_partition.specs.Classes.{ArePartition, IsNeeded, IsStable, least_of, needed};
+ghost use Rattle.frame_unroll.specs.Unrolled.{from_reset, after_classes};
+ghost use Rattle.product_machine.specs.Signals.{signal_at};
+ghost use Rattle.sat_log.specs.Derivations.{IsAccepted, Line};
+ghost use Rattle.sat_log.specs.Lines.{AreLines};
+ghost use Rattle.sat_log.specs.Texts.{HasText, log_text};
+ghost use Rattle.class_text.specs.ClassLines.{name_of};
+ghost use Rattle.corr_certificate.specs.Certificate.{IsSupported, PairOutputs};
+ghost use Rattle.corr_certificate.specs.Parts.{base_formula, step_formula};
+ghost use Rattle.corr_certificate.specs.Writing.{head_text, AreFrames, AreProved, AddsMember, AddsMembers, IsCertificate};
+
+use circ_model::{Lit, Signal};
+use class_partition::Classes;
+use class_text::{push_class_lines, push_name};
+use frame_unroll::{Found, Unrolled};
+use itoa::Buffer;
+use product_machine::Product;
+use sat_log::{Log, write_log};
+use std::alloc::{AllocError, Global};
+
+// Adds a number after a word.
+fn push_field(word: &[u8], number: u32, text: &mut Vec<u8>) -> Result<(), AllocError>
+    ensures { OnOk result (text.new.items ≡ text.old.items ++ (word.now ++ decimal number)) }
+{
+    let mut buffer = Buffer::new();
+    text.extend_from_slice(word)?;
+    text.extend_from_slice(buffer.format(number).as_bytes())?;
+    Ok(())
+}
+
+// Adds line 1.
+fn push_head(product: &Product, k: u32, text: &mut Vec<u8>) -> Result<(), AllocError>
+    ensures { OnOk result (text.new.items ≡ text.old.items ++ head_text product.now k) }
+{
+    push_field(b"seccert 1 k=", k, text)?;
+    push_field(b" signals=", product.len(), text)?;
+    text.push(b'\n')?;
+    Ok(())
+}
+
+// The literals of a place and its class's least place, at their relative phase.
+fn literals_of(classes: &Classes, place: u32) -> (Lit, Lit)
+    requires place { place < length classes.now.least }
+    requires few { length classes.now.least < 2147483648 }
+    ensures { result ≡ needed classes.now place }
+{
+    let _places = classes.len();
+    let rep = classes.rep(place);
+    let sign = if classes.phase(rep) {
+        !classes.phase(place)
+    } else {
+        classes.phase(place)
+    };
+    (Lit::of(rep, false), Lit::of(place, sign))
+}
+
+// The frames of the two questions: k from reset, and k + 1 in all but the last of which the classes hold.
+#[derive(Drop)]
+struct Frames<'p> {
+    base: Unrolled<'p>,
+    step: Unrolled<'p>,
+}
+
+// The log that no run has a place and its class's least place apart in its first k frames.
+fn base_log(
+    alloc: Global,
+    product: &Product,
+    k: u32,
+    classes: &Classes,
+    frames: &Unrolled,
+    place: u32,
+) -> Result<Log, AllocError>
+    requires proved { AreProved product.now k classes.now }
+    requires frames { frames.now ≡ from_reset product.now k }
+    requires place { place < places_of product.now }
+    ensures { IfOk result (IsAccepted (base_formula product.now k classes.now place)) }
+{
+    let _places = product.len();
+    let (a, b) = literals_of(classes, place);
+    match frames.find(alloc, a, b, 0, k - 1)? {
+        Found::None(log) => Ok(log),
+        Found::Path(_seen) => unreachable!(),
+    }
+}
+
+// The log that no path has them apart after k frames in which the classes hold.
+fn step_log(
+    alloc: Global,
+    product: &Product,
+    k: u32,
+    classes: &Classes,
+    frames: &Unrolled,
+    place: u32,
+) -> Result<Log, AllocError>
+    requires proved { AreProved product.now k classes.now }
+    requires frames { frames.now ≡ after_classes product.now k classes.now }
+    requires place { place < places_of product.now }
+    ensures { IfOk result (IsAccepted (step_formula product.now k classes.now place)) }
+{
+    let _places = product.len();
+    let (a, b) = literals_of(classes, place);
+    match frames.find(alloc, a, b, k, k)? {
+        Found::None(log) => Ok(log),
+        Found::Path(_seen) => unreachable!(),
+    }
+}
+
+// Adds a line with a name after a keyword, and a log.
+fn push_part(
+    keyword: &[u8],
+    signal: Signal,
+    log: &Log,
+    text: &mut Vec<u8>,
+) -> Result<(), AllocError>
+    ensures text { OnOk result (text.new.items ≡ text.old.items ++ (keyword.now ++ (name_of signal ++ 10 ∷ log_text log.now))) }
+    ensures lines { OnOk result (AreLines log.now) }
+    ensures hints { OnOk result (All HasText log.now) }
+{
+    text.extend_from_slice(keyword)?;
+    push_name(signal, text)?;
+    text.push(b'\n')?;
+    write_log(log, text)?;
+    Ok(())
+}
+
+// Adds the two parts of a place.
+fn push_member(
+    alloc: Global,
+    product: &Product,
+    k: u32,
+    classes: &Classes,
+    frames: &Frames,
+    place: u32,
+    text: &mut Vec<u8>,
+) -> Result<(), AllocError>
+    requires proved { AreProved product.now k classes.now }
+    requires frames { AreFrames product.now k classes.now frames.now.base frames.now.step }
+    requires place { place < places_of product.now }
+    ensures { OnOk result (AddsMember product.now k classes.now place text.old.items text.new.items) }
+{
+    let signal = product.signal(place);
+    let base = base_log(alloc, product, k, classes, &frames.base, place)?;
+    push_part(b"base ", signal, &base, text)?;
+    let step = step_log(alloc, product, k, classes, &frames.step, place)?;
+    push_part(b"step ", signal, &step, text)?;
+    Ok(())
+}
+
+// Adds the parts of all places that aren't the least of their class, and the end.
+fn push_members(
+    alloc: Global,
+    product: &Product,
+    k: u32,
+    classes: &Classes,
+    frames: &Frames,
+    text: &mut Vec<u8>,
+) -> Result<(), AllocError>
+    requires proved { AreProved product.now k classes.now }
+    requires frames { AreFrames product.now k classes.now frames.now.base frames.now.step }
+    ensures { OnOk result (AddsMembers product.now k classes.now text.old.items text.new.items) }
+{
+    for place in 0..product.len() {
+        if classes.rep(place) != place {
+            push_member(alloc, product, k, classes, frames, place, text)?;
+        }
+    }
+    text.extend_from_slice(b"end\n")?;
+    Ok(())
+}
+
+// The text, of which the contract tells what stands in it.
+fn text_of(
+    alloc: Global,
+    product: &Product,
+    k: u32,
+    classes: &Classes,
+) -> Result<Vec<u8>, AllocError>
+    requires proved { AreProved product.now k classes.now }
+    ensures { IfOk result (λ text. IsCertificate product.now k classes.now text.items) }
+{
+    let mut text = Vec::new(alloc);
+    push_head(product, k, &mut text)?;
+    push_class_lines(alloc, product, classes, &mut text)?;
+    let frames = Frames {
+        base: Unrolled::reset_frames(alloc, product, k)?,
+        step: Unrolled::step_frames(alloc, product, k, classes)?,
+    };
+    push_members(alloc, product, k, classes, &frames, &mut text)?;
+    Ok(text)
+}
+
+/// The certificate of classes that are a correspondence for k and pair all outputs: it supports the pair, so reading it finds
+/// no fault. It errs for want of memory alone.
+pub fn write_cert(
+    alloc: Global,
+    product: &Product,
+    k: u32,
+    classes: &Classes,
+) -> Result<Vec<u8>, AllocError>
+    requires some { 0 < k }
+    requires few { k ≤ 16 }
+    requires places { length classes.now.least ≡ places_of product.now }
+    requires stable { IsStable product.now k classes.now }
+    requires outputs { PairOutputs product.now classes.now }
+    ensures text { IfOk result (λ text. IsCertificate product.now k classes.now text.items) }
+    ensures supported { IfOk result (λ text. IsSupported product.now text.items) }
+{
+    let _cells = product.cells();
+    let _places = classes.len();
+    let text = text_of(alloc, product, k, classes)?;
+    Ok(text)
+}
