@@ -76,6 +76,7 @@ no_name left right trace (refusals.TraceRefused f) h = refl
 -- only a difference is stored
 no_place : (c : Command) (status : ℕ) → status ≢ 1 → store_place c status ≡ None
 no_place (commands.Replay c) status h = refl
+no_place (commands.Demo d) status h = refl
 no_place (commands.Check c) status h = let e = ne_eqb status 1 h in rw e refl
 
 -- the clauses of a run, for each ending

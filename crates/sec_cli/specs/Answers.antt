@@ -1,5 +1,5 @@
 -- What a command answers, once its files are accepted: a status and a text.
-use Rattle.std.specs.Prelude.{◌≡◌, ℕ, ◌+◌, List, [], ◌++◌, length, Option, Some, None, Ok, MatchBool}
+use Rattle.std.specs.Prelude.{◌≡◌, ℕ, ◌+◌, false, List, [], ◌++◌, length, Option, Some, None, Ok, MatchBool}
 use Rattle.circ_model.specs.Meaning.{Pair, Path, IsRun, places_of}
 use Rattle.circ_model.specs.Verdict.{Verdict, Equivalent, Different, Undecided, IsVerdict, IsFirstDifference, FirstDifference}
 use Rattle.class_partition.specs.Classes.{Classes, ArePartition, AreOfGreatest}
@@ -7,9 +7,12 @@ use Rattle.trace_witness.specs.Lines.{lines_of}
 use Rattle.trace_witness.specs.Texts.{trace_text, trace_of}
 use Rattle.trace_witness.specs.declared.read.Trace.{Trace}
 use Rattle.sec_cli.specs.ClassLines.{class_lines}
-use Rattle.sec_cli.specs.Texts.{equivalent_line, undecided_line, different_line, differs_line, agrees_line}
+use Rattle.sec_cli.specs.Texts.{equivalent_line, undecided_line, different_line, differs_line, agrees_line, demo_line}
 use Rattle.sec_cli.specs.declared.ending.Answer.{Answer}
 use Rattle.sec_cli.specs.declared.words.Check.{Check}
+use Rattle.sec_cli.specs.declared.words.Demo.{Demo}
+use Rattle.demo_pair.specs.Demo.{IsDemo}
+use Rattle.circ_model.specs.Netlist.{Netlist}
 
 abbrev pub status_of_verdict : Verdict → ℕ
 status_of_verdict (Equivalent classes) = 0
@@ -51,3 +54,13 @@ IsReplayOf pair run answer = (first : Option (ℕ × ℕ)) × FirstDifference pa
 
 abbrev pub IsReplayAnswer : Pair → List ℕ → Answer → Type 0
 IsReplayAnswer pair bytes answer = (trace : Trace) × (trace_of pair (lines_of bytes) ≡ Ok trace) × IsReplayOf pair trace.run answer
+
+-- a demo is checked as two files are, without class lines and stored traces
+abbrev pub check_of_demo : Demo → Check
+check_of_demo d = record { left = 0; right = 0; k = d.k; workers = d.workers; classes = false; trace = None }
+
+-- the line of the demo, and then the verdict of its pair
+abbrev pub IsDemoAnswer : Demo → Answer → Type 0
+IsDemoAnswer d answer =
+    (left : Netlist) × (right : Netlist) × IsDemo d.n left right
+    × ((text : List ℕ) × IsVerdictAnswer (record { left = left; right = right }) (check_of_demo d) answer.status text answer.trace.items × (answer.text.items ≡ demo_line d.n ++ text))

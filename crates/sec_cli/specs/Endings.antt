@@ -8,9 +8,10 @@ use Rattle.aiger_codec.specs.declared.fault.NetKind.TheVariants as kinds
 use Rattle.aiger_file.specs.Files.{IsNetlistFile, IsFirstFault}
 use Rattle.trace_witness.specs.Lines.{lines_of}
 use Rattle.trace_witness.specs.Texts.{trace_of}
-use Rattle.sec_cli.specs.Answers.{IsCheckAnswer, IsReplayAnswer}
+use Rattle.sec_cli.specs.Answers.{IsCheckAnswer, IsReplayAnswer, IsDemoAnswer}
 use Rattle.sec_cli.specs.Words.{word_at}
 use Rattle.sec_cli.specs.declared.words.Check.{Check}
+use Rattle.sec_cli.specs.declared.words.Demo.{Demo}
 use Rattle.sec_cli.specs.declared.words.Command.{Command}
 use Rattle.sec_cli.specs.declared.words.Command.TheVariants as commands
 use Rattle.sec_cli.specs.declared.ending.Answer.{Answer}
@@ -84,14 +85,17 @@ IsNoPair left right (unpaired.OutputsDiffer a b) = (pair : Pair) × AreAccepted 
 abbrev pub left_name : List (List ℕ) → Command → List ℕ
 left_name words (commands.Check c) = word_at words c.left
 left_name words (commands.Replay c) = word_at words c.left
+left_name words (commands.Demo d) = []
 
 abbrev pub right_name : List (List ℕ) → Command → List ℕ
 right_name words (commands.Check c) = word_at words c.right
 right_name words (commands.Replay c) = word_at words c.right
+right_name words (commands.Demo d) = []
 
 abbrev pub trace_name : List (List ℕ) → Command → List ℕ
 trace_name words (commands.Check c) = []
 trace_name words (commands.Replay c) = word_at words c.trace
+trace_name words (commands.Demo d) = []
 
 -- how the check of two files ends
 abbrev pub IsCheckEnding : Option (List ℕ) → Option (List ℕ) → Check → Ending → Type 0
@@ -111,10 +115,20 @@ IsReplayEnding left right trace (Err refusals.TraceTooLong) = (pair : Pair) × A
 IsReplayEnding left right trace (Err (refusals.TraceRefused f)) = (pair : Pair) × ArePair left right pair × IsSomeAnd trace (λ bytes. (length bytes ≤ longest_trace) × (trace_of pair (lines_of bytes) ≡ Err f))
 IsReplayEnding left right trace (Ok a) = (pair : Pair) × ArePair left right pair × IsSomeAnd trace (λ bytes. (length bytes ≤ longest_trace) × IsReplayAnswer pair bytes a)
 
+-- a demo has no files: it answers, but for want of memory
+abbrev pub IsDemoEnding : Demo → Ending → Type 0
+IsDemoEnding d (Err refusals.Memory) = Unit {0}
+IsDemoEnding d (Ok a) = IsDemoAnswer d a
+IsDemoEnding d (Err (refusals.Unpaired u)) = ⊥
+IsDemoEnding d (Err refusals.TraceFailed) = ⊥
+IsDemoEnding d (Err refusals.TraceTooLong) = ⊥
+IsDemoEnding d (Err (refusals.TraceRefused f)) = ⊥
+
 -- how a run of these words, which are this command, ends over these files
 abbrev pub IsEnding : (List ℕ → Option (List ℕ)) → List (List ℕ) → Command → Ending → Type 0
 IsEnding file words (commands.Check c) e = IsCheckEnding (file (word_at words c.left)) (file (word_at words c.right)) c e
 IsEnding file words (commands.Replay c) e = IsReplayEnding (file (word_at words c.left)) (file (word_at words c.right)) (file (word_at words c.trace)) e
+IsEnding file words (commands.Demo d) e = IsDemoEnding d e
 
 abbrev pub unread_as : Side → Unread → Unpaired
 unread_as side unread.Failed = unpaired.LoadFailed side

@@ -61,6 +61,7 @@ IsTold before faults text after now = (after ≡ appended before text) ⊎ (Rose
 abbrev pub store_place : Command → ℕ → Option ℕ
 store_place (commands.Check c) status = if status == 1 then c.trace else None
 store_place (commands.Replay c) status = None
+store_place (commands.Demo d) status = None
 
 -- all files but this one stay
 abbrev pub OthersStay : (List ℕ → Option (List ℕ)) → (List ℕ → Option (List ℕ)) → List ℕ → Type 0

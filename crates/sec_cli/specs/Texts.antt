@@ -1,5 +1,5 @@
 -- The texts that a run writes.
-use Rattle.std.specs.Prelude.{ℕ, List, [], ◌∷◌, ◌++◌, codes, decimal}
+use Rattle.std.specs.Prelude.{ℕ, ◌*◌, List, [], ◌∷◌, ◌++◌, codes, decimal}
 use Rattle.std.specs.List.{flat_map}
 use Rattle.aiger_codec.specs.declared.fault.NetFault.{NetFault}
 use Rattle.aiger_codec.specs.Names.{name_of}
@@ -28,6 +28,12 @@ differs_line frame output = codes "differs frame=" ++ (decimal frame ++ (codes "
 
 abbrev pub agrees_line : ℕ → List ℕ
 agrees_line frames = codes "agrees frames=" ++ (decimal frames ++ codes "\n")
+
+-- what a demo has: n inputs, latches and outputs, and six times as many gates
+abbrev pub demo_line : ℕ → List ℕ
+demo_line n =
+    codes "demo n=" ++ (decimal n ++ (codes " inputs=" ++ (decimal n ++ (codes " latches=" ++ (decimal n
+    ++ (codes " gates=" ++ (decimal (6 * n) ++ (codes " outputs=" ++ (decimal n ++ codes "\n")))))))))
 
 -- what each text about a file begins with
 abbrev pub about : List ℕ → List ℕ

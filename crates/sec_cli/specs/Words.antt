@@ -3,6 +3,7 @@
 use Rattle.std.specs.Prelude.{◌<◌, ◌≤◌, ℕ, ◌+◌, ◌==◌, ltb, leb, ◌&&◌, ◌||◌, IfSome, Bool, true, false, not, if◌then◌else◌, List, [], ◌∷◌, length, drop, slice_index_or, codes, bytes_eq, String, map, string_bytes, Option, None, Some, is_none, is_some, unwrap_or}
 use Rattle.aiger_codec.specs.Numbers.{number_at}
 use Rattle.sec_cli.specs.declared.words.Check.{Check}
+use Rattle.sec_cli.specs.declared.words.Demo.{Demo}
 use Rattle.sec_cli.specs.declared.words.Command.{Command}
 use Rattle.sec_cli.specs.declared.words.Command.TheVariants as commands
 use Rattle.sec_cli.specs.declared.words.Waiting.{Waiting}
@@ -100,12 +101,30 @@ abbrev pub replay_of : Option Reading → Option Command
 replay_of None = None
 replay_of (Some r) = if has_options r then None else replay_read r.first r.second r.third r.waiting
 
+-- a size: 0, or a number up to 100000
+abbrev pub size_of : List ℕ → Option ℕ
+size_of word = if bytes_eq word (codes "0") then Some 0 else number_of 100000 word
+
+abbrev pub demo_sized : Reading → Option ℕ → Option Command
+demo_sized r None = None
+demo_sized r (Some n) = Some (commands.Demo (record { n = n; k = unwrap_or r.k 1; workers = unwrap_or r.workers 1 }))
+
+-- a size and the depth and workers are `demo`
+abbrev pub demo_read : List (List ℕ) → Option ℕ → Option ℕ → Option ℕ → Waiting → Reading → Option Command
+demo_read words (Some at) None None Nothing r = if r.classes || is_some r.trace then None else demo_sized r (size_of (word_at words at))
+demo_read words first second third waiting r = None
+
+abbrev pub demo_of : List (List ℕ) → Option Reading → Option Command
+demo_of words None = None
+demo_of words (Some r) = demo_read words r.first r.second r.third r.waiting r
+
 -- the command that the words are, or none where they aren't plain
 abbrev pub command_of : List (List ℕ) → Option Command
 command_of words =
     if ltb (length words) 2 then None
     else if bytes_eq (word_at words 1) (codes "check") then check_of (read_all (Some none_read) 2 (drop 2 words))
     else if bytes_eq (word_at words 1) (codes "replay") then replay_of (read_all (Some none_read) 2 (drop 2 words))
+    else if bytes_eq (word_at words 1) (codes "demo") then demo_of words (read_all (Some none_read) 2 (drop 2 words))
     else None
 
 -- each name has a place below this one
@@ -131,6 +150,12 @@ pub record IsCheckOf (n : ℕ) (c : Check) : Type 0 where
   pub some : 0 < c.k
   pub few : c.k ≤ 16
 
+pub record IsDemoOf (d : Demo) : Type 0 where
+  pub size : d.n ≤ 100000
+  pub some : 0 < d.k
+  pub few : d.k ≤ 16
+
 abbrev pub AreWordsOf : ℕ → Command → Type 0
 AreWordsOf n (commands.Check c) = IsCheckOf n c
 AreWordsOf n (commands.Replay c) = (c.left < n) × (c.right < n) × (c.trace < n)
+AreWordsOf n (commands.Demo d) = IsDemoOf d

@@ -1,19 +1,20 @@
 // One run: its words, its files, and what is written of it.
 ghost use Rattle.std.specs.Prelude.{◌≡◌, ◌≢◌, ◌≤◌, ◌<◌, ℕ, List, [], ◌∷◌, length, IsTrue, IsSomeAnd, MatchBool, Contains, is_some, IfOk};
 ghost use Rattle.sec_base.specs.Faults.{Rose, appended};
-ghost use Rattle.sec_cli.specs.Words.{texts, command_of, word_at, AreWordsOf, IsCheckOf};
+ghost use Rattle.sec_cli.specs.Words.{texts, command_of, word_at, AreWordsOf, IsCheckOf, IsDemoOf};
 ghost use Rattle.sec_cli.specs.Texts.{usage_text, memory_text};
-ghost use Rattle.sec_cli.specs.Endings.{Ending, IsCheckEnding, IsReplayEnding, IsEnding, IsLoadEnding, failed_names, left_name, right_name, trace_name};
+ghost use Rattle.sec_cli.specs.Endings.{Ending, IsCheckEnding, IsReplayEnding, IsDemoEnding, IsEnding, IsLoadEnding, failed_names, left_name, right_name, trace_name};
 ghost use Rattle.sec_cli.specs.Reports.{IsTold, IsReport, refusal_status, told_of};
 ghost use Rattle.sec_cli.specs.Runs.{IsAnswered, IsRefused, IsUnread, IsUnwritten};
 
 use crate::checking::check_pair;
 use crate::delivering::deliver;
+use crate::demo::demo_answer;
 use crate::ending::{Answer, Refusal};
 use crate::loading::load_pair;
 use crate::replaying::replay;
 use crate::telling::{refusal_status, tell, tell_refusal};
-use crate::words::{Check, Command, command_of};
+use crate::words::{Check, Command, Demo, command_of};
 use sec_base::{Shelf, Sink};
 use std::alloc::Global;
 
@@ -76,6 +77,20 @@ fn replay_files<S: Shelf>(
     }
 }
 
+// The answer of a demo, which loads no files.
+fn demo_ending(alloc: Global, d: &Demo) -> Result<Answer, Refusal>
+    requires { IsDemoOf d.now }
+    ensures ending { IsDemoEnding d.now result }
+    ensures status { IfOk result (λ a. a.status ≤ 2) }
+    ensures unloaded { IsLoadEnding result → ⊥ }
+    ensures names { failed_names [] [] [] result ≡ [] }
+{
+    match demo_answer(alloc, d) {
+        Ok(answer) => Ok(answer),
+        Err(_) => Err(Refusal::Memory),
+    }
+}
+
 // The answer of a command.
 fn decide<S: Shelf>(
     alloc: Global,
@@ -109,6 +124,7 @@ fn decide<S: Shelf>(
             words[c.right].as_str(),
             words[c.trace].as_str(),
         ),
+        Command::Demo(d) => demo_ending(alloc, &d),
     }
 }
 
@@ -139,6 +155,10 @@ fn refuse<E: Sink>(words: &[String], command: Command, refusal: Refusal, err: &m
                 trace,
                 refusal,
             );
+            refusal_status(refusal)
+        }
+        Command::Demo(_) => {
+            tell_refusal(err, "", "", "", refusal);
             refusal_status(refusal)
         }
     }
@@ -172,9 +192,9 @@ fn perform<S: Shelf, O: Sink, E: Sink>(
 }
 
 /// One run of the program over these words, of which the first is its own name: `check LEFT RIGHT [-k K] [-j J] [--classes]
-/// [--trace FILE]` or `replay LEFT RIGHT TRACE`. `check` decides by signal correspondence with k-induction (van Eijk, IEEE TCAD
+/// [--trace FILE]`, `replay LEFT RIGHT TRACE` or `demo N [-k K] [-j J]`. `check` decides by signal correspondence with k-induction (van Eijk, IEEE TCAD
 /// 19(7), 2000; Sheeran, Singh, Stålmarck, FMCAD 2000) after a search for a difference in the first k frames; `replay` tells
-/// the first difference of a stored trace.
+/// the first difference of a stored trace; `demo` checks a pair of any size that it makes itself.
 pub fn run<S: Shelf, O: Sink, E: Sink>(
     alloc: Global,
     words: &[String],

@@ -5,6 +5,7 @@ mod checking;
 mod class_lines;
 mod command;
 mod delivering;
+mod demo;
 mod ending;
 mod lines;
 mod loading;
@@ -17,7 +18,7 @@ mod words;
 
 pub use command::{Report, run};
 pub use ending::{Answer, Refusal, Side, Unpaired};
-pub use words::{Check, Command, Replay};
+pub use words::{Check, Command, Demo, Replay};
 
 #[cfg(test)]
 mod tests;

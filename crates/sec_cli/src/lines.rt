@@ -1,8 +1,17 @@
 // What a run prints: each text is made whole before any of it is written.
-ghost use Rattle.std.specs.Prelude.{◌≡◌, ◌++◌, codes, decimal, string_bytes, IfOk, OnOk};
-ghost use Rattle.sec_cli.specs.Texts.{equivalent_line, undecided_head, undecided_line, with_commas, different_line, differs_line, agrees_line};
+ghost use Rattle.std.specs.Prelude.{◌≡◌, ◌≤◌, ◌*◌, ◌++◌, codes, decimal, string_bytes, IfOk, OnOk};
+ghost use Rattle.sec_cli.specs.Texts.{equivalent_line, undecided_head, undecided_line, with_commas, different_line, differs_line, agrees_line, demo_line};
 
 use std::alloc::{AllocError, Global};
+
+/// The line of a demo.
+pub(crate) fn demo_line(alloc: Global, n: u32) -> Result<String, AllocError>
+    requires { n ≤ 100000 }
+    ensures { IfOk result (λ line. string_bytes line ≡ demo_line n) }
+{
+    let gates = 6 * n;
+    format!(in alloc; "demo n={n} inputs={n} latches={n} gates={gates} outputs={n}\n")
+}
 
 /// The line of an equivalent verdict.
 pub(crate) fn equivalent_line(

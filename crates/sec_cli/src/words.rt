@@ -1,6 +1,6 @@
 // The words of a run: which command they are, with which files and options.
 ghost use Rattle.std.specs.Prelude.{◌≡◌, ◌≤◌, ◌<◌, ℕ, List, drop, length, IfSome, Some};
-ghost use Rattle.sec_cli.specs.Words.{is_name, leads_zero, texts, number_of, none_read, step, named, word_read, flag_read, read_all, check_of, replay_of, command_of, AreWithin, AreWordsOf, IsUpTo};
+ghost use Rattle.sec_cli.specs.Words.{is_name, leads_zero, texts, number_of, none_read, step, named, word_read, flag_read, read_all, check_of, replay_of, size_of, demo_of, command_of, AreWithin, AreWordsOf, IsUpTo};
 
 use aiger_codec::read_number;
 
@@ -27,11 +27,23 @@ pub struct Replay {
     pub trace: usize,
 }
 
+/// The words of `demo`.
+#[derive(Clone, Copy, Debug, PartialEq, Eq)]
+pub struct Demo {
+    /// The size of the pair.
+    pub n: u32,
+    /// The depth of the induction.
+    pub k: u32,
+    /// How many workers are asked for.
+    pub workers: u32,
+}
+
 /// What the words of a run ask for.
 #[derive(Clone, Copy, Debug, PartialEq, Eq)]
 pub enum Command {
     Check(Check),
     Replay(Replay),
+    Demo(Demo),
 }
 
 /// The option whose value comes next.
@@ -260,6 +272,40 @@ fn replay_of(r: Reading) -> Option<Command>
     }
 }
 
+// A size: 0, or a number up to 100000.
+fn size_of(word: &[u8]) -> Option<u32>
+    ensures size { result ≡ size_of word.now }
+    ensures within { IfSome result (λ n. n ≤ 100000) }
+{
+    if word == b"0".as_slice() {
+        Some(0)
+    } else {
+        number_of(word, 100000)
+    }
+}
+
+// The words of `demo`, of which one is its size.
+fn demo_of(words: &[String], r: Reading) -> Option<Command>
+    requires { AreWithin (length words.now) r }
+    ensures command { result ≡ demo_of (texts words.now) (Some r) }
+    ensures within { IfSome result (AreWordsOf (length words.now)) }
+{
+    if r.classes || r.trace.is_some() {
+        return None;
+    }
+    match (r.first, r.second, r.third, r.waiting) {
+        (Some(at), None, None, Waiting::Nothing) => match size_of(words[at].as_bytes()) {
+            Some(n) => Some(Command::Demo(Demo {
+                n,
+                k: r.k.unwrap_or(1),
+                workers: r.workers.unwrap_or(1),
+            })),
+            None => None,
+        },
+        _ => None,
+    }
+}
+
 /// The command that plain words are, or none where they aren't plain.
 pub(crate) fn command_of(words: &[String]) -> Option<Command>
     ensures command { result ≡ command_of (texts words.now) }
@@ -274,6 +320,8 @@ pub(crate) fn command_of(words: &[String]) -> Option<Command>
         check_of(reading)
     } else if name == b"replay".as_slice() {
         replay_of(reading)
+    } else if name == b"demo".as_slice() {
+        demo_of(words, reading)
     } else {
         None
     }

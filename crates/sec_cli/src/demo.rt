@@ -1,0 +1,53 @@
+// The answer of `demo`: the line of a demo pair, and the verdict of its two netlists.
+ghost use Rattle.std.specs.Prelude.{◌≤◌, ◌≡◌, IfOk};
+ghost use Rattle.circ_model.specs.Meaning.{IsSoundPair};
+ghost use Rattle.demo_pair.specs.Demo.{IsDemo};
+ghost use Rattle.sec_cli.specs.Answers.{IsDemoAnswer};
+ghost use Rattle.sec_cli.specs.Words.{IsDemoOf};
+
+use crate::checking::check_pair;
+use crate::ending::Answer;
+use crate::lines::demo_line;
+use crate::words::{Check, Demo};
+use demo_pair::make_demo;
+use product_machine::Product;
+use std::alloc::{AllocError, Global};
+
+// The pair of a size.
+fn demo_product(alloc: Global, n: u32) -> Result<Product, AllocError>
+    requires { n ≤ 100000 }
+    ensures { IfOk result (λ p. IsDemo n p.left p.right) }
+{
+    let (left, right) = make_demo(alloc, n)?;
+    match Product::new(alloc, left, right) {
+        Ok(product) => Ok(product),
+        Err(_) => Err(AllocError),
+    }
+}
+
+/// The line of the demo of a size, and the verdict of its pair.
+pub(crate) fn demo_answer(alloc: Global, d: &Demo) -> Result<Answer, AllocError>
+    requires { IsDemoOf d.now }
+    ensures answer { IfOk result (IsDemoAnswer d.now) }
+    ensures status { IfOk result (λ a. a.status ≤ 2) }
+{
+    let product = demo_product(alloc, d.n)?;
+    let check = Check {
+        left: 0,
+        right: 0,
+        k: d.k,
+        workers: d.workers,
+        classes: false,
+        trace: None,
+    };
+    let line = demo_line(alloc, d.n)?;
+    let mut text = Vec::from_slice(alloc, line.as_bytes())?;
+    let answer = check_pair(alloc, &product, &check)?;
+    text.extend_from_slice(answer.text.as_slice())?;
+    let Answer { status, trace, .. } = answer;
+    Ok(Answer {
+        status,
+        text,
+        trace,
+    })
+}
