@@ -17,7 +17,7 @@ ghost use Rattle.corr_certificate.specs.Writing.{head_text, AreFrames, AreProved
 use circ_model::{Lit, Signal};
 use class_partition::Classes;
 use class_text::{push_class_lines, push_name};
-use frame_unroll::{Found, Unrolled};
+use frame_unroll::{Found, Prepared};
 use itoa::Buffer;
 use product_machine::Product;
 use sat_log::{Log, write_log};
@@ -62,8 +62,8 @@ fn literals_of(classes: &Classes, place: u32) -> (Lit, Lit)
 // The frames of the two questions: k from reset, and k + 1 in all but the last of which the classes hold.
 #[derive(Drop)]
 struct Frames<'p> {
-    base: Unrolled<'p>,
-    step: Unrolled<'p>,
+    base: Prepared<'p>,
+    step: Prepared<'p>,
 }
 
 // The log that no run has a place and its class's least place apart in its first k frames.
@@ -72,7 +72,7 @@ fn base_log(
     product: &Product,
     k: u32,
     classes: &Classes,
-    frames: &Unrolled,
+    frames: &Prepared,
     place: u32,
 ) -> Result<Log, AllocError>
     requires proved { AreProved product.now k classes.now }
@@ -94,7 +94,7 @@ fn step_log(
     product: &Product,
     k: u32,
     classes: &Classes,
-    frames: &Unrolled,
+    frames: &Prepared,
     place: u32,
 ) -> Result<Log, AllocError>
     requires proved { AreProved product.now k classes.now }
@@ -187,8 +187,8 @@ fn text_of(
     push_head(product, k, &mut text)?;
     push_class_lines(alloc, product, classes, &mut text)?;
     let frames = Frames {
-        base: Unrolled::reset_frames(alloc, product, k)?,
-        step: Unrolled::step_frames(alloc, product, k, classes)?,
+        base: Prepared::reset_frames(alloc, product, k)?,
+        step: Prepared::step_frames(alloc, product, k, classes)?,
     };
     push_members(alloc, product, k, classes, &frames, &mut text)?;
     Ok(text)
