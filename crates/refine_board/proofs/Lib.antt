@@ -1,0 +1,9 @@
+pub mod Supported
+pub mod Splits
+pub mod Offers
+pub mod Timely
+pub mod Outdated
+pub mod Orderly
+pub mod Runs
+pub mod Judged
+pub mod Dividing

@@ -1,0 +1,6 @@
+pub mod States
+pub mod Schedules
+pub mod Tallies
+pub mod Running
+pub mod Answers
+pub mod Laws

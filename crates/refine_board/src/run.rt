@@ -1,0 +1,17 @@
+//! The name of one run, which its board, its offers and the value under the lock have in their types.
+use std::sync::ledger::Ledger;
+
+/// Names one run: its pair of netlists, its k, its number of workers and the board on which it opens.
+pub trait Run: Ledger {
+    ghost use Rattle.std.specs.Prelude.{ℕ};
+    ghost use Rattle.circ_model.specs.Meaning.{Pair};
+    ghost use Rattle.refine_board.specs.States.{State};
+
+    ghost pair: { Pair };
+
+    ghost k: { ℕ };
+
+    ghost workers: { ℕ };
+
+    ghost opening: { State };
+}
