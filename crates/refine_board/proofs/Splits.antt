@@ -101,7 +101,7 @@ splits_below pair k entries before after is leads =
     omega arith
 
 -- from the classes of the greatest correspondence on, nothing splits and the classes stay
-unsplit : (pair : Pair) (k : ℕ) (event : Step) (before : State) (after : Classes) → IsSupported pair k before → AreOfGreatest pair k before.classes → IsAllowed pair k before event → Makes (places_of pair) event before.classes after → (after ≡ before.classes) × (is_split event ≡ false)
+pub unsplit : (pair : Pair) (k : ℕ) (event : Step) (before : State) (after : Classes) → IsSupported pair k before → AreOfGreatest pair k before.classes → IsAllowed pair k before event → Makes (places_of pair) event before.classes after → (after ≡ before.classes) × (is_split event ≡ false)
 unsplit pair k (Split bits n) before after is of ok makes =
     let same : after ≡ before.classes = undivided (places_of pair) before.classes bits after is.partition makes.0 (greatest_undivided pair k before.classes bits is.partition of ok) in
     let some = makes.1 in

@@ -1,7 +1,7 @@
 //! The board that workers share, under a lock, and its calls. Each appends one entry to the journal, with the party's next
 //! number and its answer, and changes the state as that entry does; between the calls the journal is legal, and leads from
 //! the opening to the state.
-ghost use Rattle.std.specs.Prelude.{◌≡◌, ◌≢◌, ◌<◌, ◌≤◌, ◌+◌, ◌^◌, [], ℕ, IfOk, OnErr, true, false};
+ghost use Rattle.std.specs.Prelude.{◌≡◌, ◌≢◌, ◌<◌, ◌≤◌, ◌+◌, ◌^◌, ◌↔◌, [], ℕ, IsTrue, IfOk, OnErr, true, false};
 ghost use Rattle.circ_model.specs.Meaning.{places_of};
 ghost use Rattle.class_partition.specs.Classes.{AreOfGreatest};
 ghost use Rattle.refine_board.specs.States.{AllCounted};
@@ -13,6 +13,7 @@ use crate::answers::{Cut, Kept, Offer, Take};
 use crate::journal::{Journal, Step};
 use crate::marks::{LastOffer, Mark, no_calls, no_offers, open_marks};
 use crate::run::Run;
+use crate::same::is_under;
 use std::alloc::{AllocError, Global};
 use std::marker::Model;
 use std::sync::ledger::{Blank, Book, Share};
@@ -113,7 +114,7 @@ impl<'p, L: Run> Board<'p, L> {
         ensures counted { result ≡ Kept.Counted → IsUnder L.pair L.k self.old.state.classes verdict.now.version }
         ensures stale { result ≡ Kept.Stale → IsUnder L.pair L.k self.old.state.classes verdict.now.version → ⊥ }
     {
-        let current = self.is_current(verdict);
+        let current = self.is_at(verdict.version());
         let (party, pair) = self.settle(offer);
         if current {
             self.count(party, pair, verdict);
@@ -124,11 +125,12 @@ impl<'p, L: Run> Board<'p, L> {
     }
 
     /// Splits the classes by a vector that was found for the offer, where it is of the run's netlists and k. A split opens
-    /// each needed pair.
+    /// each needed pair. Nothing splits the classes of the greatest correspondence.
     pub fn split(&mut self, offer: Offer<L>, vector: Vector<'_>) -> Cut
         ensures step { Appends (places_of L.pair) self.old self.new offer.party (cut_step result vector.entry.bits) }
         ensures own { result ≢ Cut.Foreign → IsOf L.pair L.k vector.entry }
         ensures foreign { result ≡ Cut.Foreign → IsOf L.pair L.k vector.entry → ⊥ }
+        ensures stays { AreOfGreatest L.pair L.k self.old.state.classes → self.new.state.classes ≡ self.old.state.classes }
     {
         let own = self.is_of_run(&vector);
         let (party, _) = self.settle(offer);
@@ -161,6 +163,14 @@ impl<'p, L: Run> Board<'p, L> {
         ensures number { result.now.number ≡ self.entry.now.state.number }
     {
         &self.version
+    }
+
+    /// Whether the board stands at a version: it is of the run's netlists and k, with the board's classes.
+    pub fn is_at(&self, version: &Version<'_>) -> bool
+        ensures { IsTrue result ↔ IsUnder L.pair L.k self.now.state.classes version.now }
+    {
+        let now = &self.version;
+        is_under(version, now.product(), now.k(), now.classes())
     }
 
     /// The version on which the board opened, which no call changes.

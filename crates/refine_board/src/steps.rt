@@ -1,7 +1,7 @@
 //! The steps of a board, one for each entry: each changes the state and writes its entry.
 ghost use Rattle.std.specs.Prelude.{◌≡◌, ◌≢◌, ◌<◌, ◌≤◌, ◌+◌, ◌^◌, ℕ, IsTrue, ◌↔◌, length, OnOk, true, false};
 ghost use Rattle.circ_model.specs.Meaning.{places_of};
-ghost use Rattle.class_partition.specs.Classes.{IsNeeded, class_count};
+ghost use Rattle.class_partition.specs.Classes.{AreOfGreatest, IsNeeded, class_count};
 ghost use Rattle.refine_board.specs.States.{IsNeededPair, IsOpen, NoneOpen, SomeOut, AllCounted};
 ghost use Rattle.refine_board.specs.Running.{Appends, Frees, IsAbout, IsUnder, IsOf};
 ghost use Rattle.refine_board.specs.Answers.{cut_step};
@@ -11,7 +11,6 @@ use crate::board::Board;
 use crate::journal::Step;
 use crate::marks::{LastOffer, Mark, first_marked, note, open_all, release};
 use crate::run::Run;
-use crate::same::is_under;
 use class_partition::Needed;
 use std::alloc::AllocError;
 use verdict_stamp::{Vector, Verdict};
@@ -66,19 +65,6 @@ impl<'p, L: Run> Board<'p, L> {
     {
         let classes = self.version.classes();
         first_marked(classes, &self.marks, Mark::Out, 0) < classes.len()
-    }
-
-    // Whether the verdict was found for the run under the board's classes.
-    pub(crate) fn is_current(&self, verdict: &Verdict<'_, '_>) -> bool
-        ensures { IsTrue result ↔ IsUnder L.pair L.k self.now.state.classes verdict.now.version }
-    {
-        let version = &self.version;
-        is_under(
-            verdict.version(),
-            version.product(),
-            version.k(),
-            version.classes(),
-        )
     }
 
     // Whether the vector is of the run's netlists and k.
@@ -231,6 +217,7 @@ impl<'p, L: Run> Board<'p, L> {
         requires room { 1 ≤ self.old.room }
         ensures step { Appends (places_of L.pair) self.old self.new party (cut_step result vector.entry.bits) }
         ensures own { result ≢ Cut.Foreign }
+        ensures stays { AreOfGreatest L.pair L.k self.old.state.classes → self.new.state.classes ≡ self.old.state.classes }
     {
         let Board {
             version,

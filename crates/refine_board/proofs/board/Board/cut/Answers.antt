@@ -1,7 +1,7 @@
 use Rattle.std.proofs.Common.{◌≡◌, ◌∙◌, ◌<◌, ◌+◌, ◌-◌, ℕ, List, Bool, length, replicate, arith, refl, sym, subst, ap}
 use Rattle.circ_model.specs.Meaning.{Pair, places_of}
 use Rattle.circ_model.specs.Correspondence.{MaySplit}
-use Rattle.class_partition.specs.Classes.{HoldIn, IsNeeded}
+use Rattle.class_partition.specs.Classes.{AreOfGreatest, HoldIn, IsNeeded}
 use Rattle.verdict_stamp.specs.Versions.{Standing}
 use Rattle.verdict_stamp.specs.Versions as vector
 use Rattle.refine_board.specs.declared.marks.Mark.TheVariants.{Open}
@@ -9,6 +9,7 @@ use Rattle.refine_board.specs.declared.journal.Step.TheVariants.{Already, Split}
 use Rattle.refine_board.specs.States.{State, called, cleared, released, divided}
 use Rattle.refine_board.specs.Running.{Running, IsRunning, IsOfRun, state_of}
 use Rattle.refine_board.proofs.Runs.{running_after, held_after, released_is}
+use Rattle.refine_board.proofs.Splits.{unsplit}
 use Rattle.refine_board.proofs.Dividing.{Divided, divided_is, may_of_run}
 use Rattle.refine_board.proofs.board.Board.cut.Goals as goal
 
@@ -88,3 +89,19 @@ returns-clause-step g c =
     let marks_is : c.open_all.new.marks.items ≡ replicate places Open = c.open_all.ensures ∙ ap (λ (n : ℕ). replicate n Open) was.supported.marks in
     let after : State = called q (cleared q (divided places v.classes before)) in
     rw (← c.self.view_is, ← bits_is) ((inside, refl, (v.classes, d.split, d.some, d.count, rw (c.note-2.ensures.calls, marks_is, number_is) refl)), c.note-2.ensures.entries)
+
+pub returns-clause-stays : goal.returns-clause-stays
+returns-clause-stays g c of =
+    let i = c.self.inside in
+    let before : State = state_of i.version i.marks.items i.calls.items i.offers.items in
+    let was : IsRunning g.L.Run.pair g.L.Run.k g.L.Run.workers g.L.Run.opening before i.journal.entries = c.self.invariant.0 in
+    let places : ℕ = places_of g.L.Run.pair in
+    let x : vector.Split = c.args.vector in
+    let v : Standing = c.split_by-added.new.self in
+    let added : ℕ = c.split_by-added.result in
+    let bits : List Bool = c.into_bits-bits.result in
+    let bits_is : bits ≡ x.bits = c.into_bits-bits.ensures.bits in
+    let may : MaySplit g.L.Run.pair g.L.Run.k bits = may_of_run g.L.Run.pair g.L.Run.k x bits bits_is c.requires.own c.into_bits-bits.ensures.may in
+    let d : Divided places before.classes bits v.classes added = divided_is g.L.Run.pair v i.version x.bits bits added c.self.invariant.1.pair_is was.supported.partition bits_is c.split_by-added.ensures.split c.split_by-added.ensures.count (omega arith) in
+    let classes_is : before.classes ≡ c.args.self.now.state.classes = ap (λ (r : Running). r.state.classes) c.self.view_is in
+    (unsplit g.L.Run.pair g.L.Run.k (Split bits added) before v.classes was.supported (subst (AreOfGreatest g.L.Run.pair g.L.Run.k) (sym classes_is) of) may (d.split, d.some, d.count)).0 ∙ classes_is
