@@ -7,3 +7,5 @@ pub mod Orderly
 pub mod Runs
 pub mod Judged
 pub mod Dividing
+pub mod Replaying
+pub mod Counting

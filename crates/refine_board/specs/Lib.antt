@@ -4,3 +4,4 @@ pub mod Tallies
 pub mod Running
 pub mod Answers
 pub mod Laws
+pub mod Replays

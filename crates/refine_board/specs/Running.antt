@@ -1,5 +1,6 @@
 -- What is true of a running board at every moment, and what a call adds.
 use Rattle.std.specs.Prelude.{◌≡◌, ℕ, ◌+◌, ◌<◌, ◌≤◌, List, [], ◌∷◌, ◌++◌, ◌^◌, length, slice_index, slice_index_or, set, ◌≢◌, ◌==◌, if◌then◌else◌, Option, Some, None}
+use Rattle.std.specs.List.{All}
 use Rattle.circ_model.specs.Meaning.{Pair, places_of}
 use Rattle.circ_model.specs.Correspondence.{MaySplit}
 use Rattle.class_partition.specs.declared.classes.Needed.{Needed}
@@ -68,6 +69,14 @@ next_entry state party step = record { worker = party; call = slice_index state.
 abbrev pub Appends : ℕ → Running → Running → ℕ → Step → Type 0
 Appends places before after party step = IsStep places (next_entry before.state party step) before.state after.state × (after.entries ≡ before.entries ++ next_entry before.state party step ∷ [])
 
+-- entries of this party were added
+abbrev pub IsExtended : ℕ → List Entry → List Entry → Type 0
+IsExtended party before after = (more : List Entry) × (after ≡ before ++ more) × All (λ (e : Entry). e.worker ≡ party) more
+
+-- a place's pair that a party is to prove under a version
+abbrev pub IsAsked : Standing → Needed → Type 0
+IsAsked v p = IsNeeded (places_of v.pair) v.classes p.member × (p.rep ≡ least_of v.classes p.member)
+
 -- an answer that is owed
 pub record Owed : Type 0 where
   pub party : ℕ
@@ -89,6 +98,9 @@ IsOf pair k x = (x.pair ≡ pair) × (x.k ≡ k)
 -- a needed place has this mark
 abbrev pub IsMarkedAt : List ℕ → List Mark → Mark → ℕ → Type 0
 IsMarkedAt least marks mark p = (slice_index least p ≢ p) × (slice_index_or marks p Open ≡ mark)
+
+abbrev pub IsCountedAt : State → ℕ → Type 0
+IsCountedAt board m = mark_of board m ≡ Proved
 
 abbrev pub AreCountedBelow : ℕ → State → ℕ → Type 0
 AreCountedBelow places board p = (m : ℕ) → m < p → IsNeeded places board.classes m → mark_of board m ≡ Proved

@@ -1,5 +1,7 @@
 -- A board of refinement as plain data, and the changes that its entries make.
-use Rattle.std.specs.Prelude.{◌≡◌, ◌==◌, ℕ, ◌+◌, ◌<◌, List, set, replicate, if◌then◌else◌, slice_index, slice_index_or, Option, Some, None}
+use Rattle.std.specs.Prelude.{◌≡◌, ◌==◌, ℕ, ◌+◌, ◌<◌, List, [], set, replicate, if◌then◌else◌, slice_index, slice_index_or, Option, Some, None}
+use Rattle.circ_model.specs.Netlist.{Netlist}
+use Rattle.circ_model.specs.Meaning.{Pair}
 use Rattle.class_partition.specs.declared.classes.Needed.{Needed}
 use Rattle.class_partition.specs.Classes.{Classes, IsNeeded, least_of}
 use Rattle.refine_board.specs.declared.marks.Mark.{Mark}
@@ -62,3 +64,13 @@ released party board = cleared party (reopened (offer_of board party) board)
 
 abbrev pub divided : ℕ → Classes → State → State
 divided places classes board = record board { classes = classes; number = board.number + 1; marks = replicate places Open }
+
+-- what a brand names before a call picks its run
+abbrev pub no_net : Netlist
+no_net = record { max_var = 0; inputs = []; latches = []; outputs = []; gates = [] }
+
+abbrev pub no_pair : Pair
+no_pair = record { left = no_net; right = no_net }
+
+abbrev pub no_state : State
+no_state = record { classes = record { least = []; phase = [] }; number = 0; marks = []; calls = []; offers = [] }

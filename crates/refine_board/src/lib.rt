@@ -5,6 +5,8 @@
 
 mod answers;
 mod board;
+mod closing;
+mod history;
 mod journal;
 mod laws;
 mod marks;
@@ -14,6 +16,8 @@ mod steps;
 
 pub use answers::{Cut, Kept, Offer, Take};
 pub use board::Board;
+pub use closing::finish;
+pub use history::replay;
 pub use journal::{Entry, Journal, Step};
 pub use laws::any_schedule;
 pub use marks::{LastOffer, Mark};

@@ -7,7 +7,7 @@ use product_machine::Product;
 use verdict_stamp::Version;
 
 // Whether two partitions are equal.
-fn same_classes(a: &Classes, b: &Classes) -> bool
+pub(crate) fn same_classes(a: &Classes, b: &Classes) -> bool
     ensures { IsTrue result ↔ (a.now ≡ b.now) }
 {
     let n = a.len();

@@ -3,7 +3,7 @@ ghost use Rattle.std.specs.Prelude.{◌≡◌, ◌≢◌, ◌<◌, ◌≤◌, �
 ghost use Rattle.circ_model.specs.Meaning.{places_of};
 ghost use Rattle.class_partition.specs.Classes.{AreOfGreatest, IsNeeded, class_count};
 ghost use Rattle.refine_board.specs.States.{IsNeededPair, IsOpen, NoneOpen, SomeOut, AllCounted};
-ghost use Rattle.refine_board.specs.Running.{Appends, Frees, IsAbout, IsUnder, IsOf};
+ghost use Rattle.refine_board.specs.Running.{Appends, AreCountedBelow, Frees, IsAbout, IsCountedAt, IsExtended, IsUnder, IsOf};
 ghost use Rattle.refine_board.specs.Answers.{cut_step};
 
 use crate::answers::{Cut, Offer};
@@ -33,6 +33,8 @@ impl<'p, L: Run> Board<'p, L> {
     pub(crate) fn places(&self) -> u32
         ensures places { result ≡ places_of L.pair }
         ensures classes { 0 < class_count (places_of L.pair) self.now.state.classes }
+        ensures marks { length self.now.state.marks ≡ places_of L.pair }
+        ensures greatest { AllCounted (places_of L.pair) self.now.state → AreOfGreatest L.pair L.k self.now.state.classes }
     {
         self.version.classes().len()
     }
@@ -99,6 +101,7 @@ impl<'p, L: Run> Board<'p, L> {
         ensures party { result.party ≡ party }
         ensures number { result.number ≡ self.old.state.number }
         ensures member { result.pair.member ≡ member }
+        ensures room { self.new.room + 2 ≡ self.old.room }
     {
         let _written = self.journal.len();
         let pair = self.pair_at(member);
@@ -240,5 +243,43 @@ impl<'p, L: Run> Board<'p, L> {
         offers[party as usize] = None;
         note(calls, journal, party, Step::Split(bits, added));
         Cut::Split(added)
+    }
+
+    // Whether the place has an open pair.
+    pub(crate) fn is_open_at(&self, member: u32) -> bool
+        requires needed { IsNeeded (places_of L.pair) self.now.state.classes member }
+        ensures yes { result ≡ true → IsOpen (places_of L.pair) self.now.state member }
+    {
+        self.marks[member as usize] == Mark::Open
+    }
+
+    // Whether the place has a needed pair that isn't counted.
+    pub(crate) fn is_wanted(&self, member: u32) -> bool
+        requires place { member < places_of L.pair }
+        ensures yes { result ≡ true → IsNeeded (places_of L.pair) self.now.state.classes member }
+        ensures no { result ≡ false → IsNeeded (places_of L.pair) self.now.state.classes member → IsCountedAt self.now.state member }
+    {
+        if self.version.classes().rep(member) == member {
+            return false;
+        }
+        self.marks[member as usize] != Mark::Proved
+    }
+
+    // The party takes the pair of a place, where it is open, to answer it at once.
+    pub(crate) fn claim(&mut self, party: u32, member: u32)
+        requires party { party < L.workers + 1 }
+        requires needed { IsNeeded (places_of L.pair) self.old.state.classes member }
+        requires below { AreCountedBelow (places_of L.pair) self.old.state member }
+        requires room { 2 ≤ self.old.room }
+        requires few { length self.old.entries < 2 ^ 60 }
+        ensures classes { self.new.state.classes ≡ self.old.state.classes }
+        ensures below { AreCountedBelow (places_of L.pair) self.new.state member }
+        ensures entries { IsExtended party self.old.entries self.new.entries }
+        ensures room { 1 ≤ self.new.room }
+    {
+        if self.is_open_at(member) {
+            let offer = self.offer(party, member);
+            self.settle(offer);
+        }
     }
 }
