@@ -1,5 +1,5 @@
 //! What lies under the lock of a run: its board, and what the ends of its workers say of it.
-ghost use Rattle.std.specs.Prelude.{◌≡◌, ◌<◌, ◌≤◌, ◌+◌, ◌^◌, ◌×◌, ℕ, true, false, length, IfSome, IfNone};
+ghost use Rattle.std.specs.Prelude.{◌≡◌, ◌<◌, ◌≤◌, ◌+◌, ◌^◌, ℕ, true, false, length, IfSome, IfNone};
 ghost use Rattle.std.specs.List.{All};
 ghost use Rattle.circ_model.specs.Meaning.{places_of};
 ghost use Rattle.class_partition.specs.Classes.{AreOfGreatest};
@@ -7,18 +7,12 @@ ghost use Rattle.refine_board.specs.States.{AllCounted, IsNeededPair};
 ghost use Rattle.refine_board.specs.Running.{IsAbout, IsOf};
 ghost use Rattle.split_workers.specs.Desks.{IsAskedOf, Goes, IsOutcome};
 
+use crate::ended::Ended;
 use refine_board::{Board, Journal, Offer, Run, Take};
 use std::alloc::{AllocError, Global};
 use std::marker::Model;
 use std::sync::ledger::{Blank, Book, Ledger, Share};
 use verdict_stamp::{Vector, Verdict, Version};
-
-/// That a worker was told that each pair is counted: a unit of the ledger of ends.
-#[derive(Drop)]
-pub(crate) struct Ended<E: Ledger> {
-    unit: Share<E>,
-    ghost one: { unit.amount ≡ 1 },
-}
 
 /// What a worker is answered that asks for work.
 #[derive(Drop)]

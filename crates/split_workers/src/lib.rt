@@ -3,6 +3,7 @@
 #![tactic(auto)]
 
 mod desk;
+mod ended;
 mod running;
 #[cfg(test)]
 mod tests;

@@ -1,10 +1,11 @@
 //! A run of several workers, from the opening to the classes of the greatest correspondence.
-ghost use Rattle.std.specs.Prelude.{◌≡◌, ◌<◌, ◌≤◌, ◌+◌, ◌^◌, ◌×◌, ℕ, IfOk};
+ghost use Rattle.std.specs.Prelude.{◌≡◌, ◌<◌, ◌≤◌, ◌+◌, ◌^◌, ℕ, IfOk};
 ghost use Rattle.refine_board.specs.Schedules.{opened};
 ghost use Rattle.split_workers.specs.Desks.{IsOutcome};
 ghost use Rattle.split_workers.specs.Refined.{IsRefined};
 
-use crate::desk::{Desk, Ended};
+use crate::desk::Desk;
+use crate::ended::Ended;
 use crate::worker::{Room, work};
 use product_machine::Product;
 use refine_board::{Board, Journal, Run};
@@ -84,14 +85,14 @@ fn refine_named<'p, L: Run + Send + Sync, E: Ledger + Send + Sync, R: Threads + 
 /// The classes of the greatest correspondence for induction over k frames, by so many workers, and the journal of their run.
 /// The run opens on the version that simulation leaves. A worker that finds no work waits for the others' answers; where no
 /// thread can be made the caller does its work. An `Err` is want of memory: then every worker has ended.
-pub fn refine<R: Threads + Wait + Sync, G: Gate>(
+pub fn refine<'p, R: Threads + Wait + Sync, G: Gate>(
     rt: &R,
     alloc: Global,
-    product: &Product,
+    product: &'p Product,
     k: u32,
     workers: u32,
     gate: &G,
-) -> Result<Refined<'_>, AllocError>
+) -> Result<Refined<'p>, AllocError>
     requires some { 0 < k }
     requires few { k ≤ 16 }
     requires workers { (0 < workers) × (workers ≤ 64) }

@@ -3,7 +3,8 @@ ghost use Rattle.std.specs.Prelude.{◌≡◌, ◌<◌, ◌+◌, ℕ, IfOk};
 ghost use Rattle.refine_board.specs.Running.{IsAsked};
 ghost use Rattle.split_workers.specs.Desks.{IsAskedOf};
 
-use crate::desk::{Asked, Desk, Ended};
+use crate::desk::{Asked, Desk};
+use crate::ended::Ended;
 use refine_board::{Offer, Run};
 use sec_base::Gate;
 use std::alloc::{AllocError, Global};
@@ -12,6 +13,7 @@ use std::sync::{Condvar, Mutex, Wait};
 use verdict_stamp::{Proof, Prover, Version};
 
 /// What the workers share: the locked desk, and the bell that wakes those who wait for work.
+#[derive(Drop)]
 pub(crate) struct Room<'p, L: Run, E: Ledger> {
     desk: Mutex<Desk<'p, L, E>>,
     bell: Condvar,
