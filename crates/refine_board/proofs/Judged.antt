@@ -1,0 +1,44 @@
+-- What a verdict under the board's classes shows.
+use Rattle.std.proofs.Common.{◌≡◌, ◌∙◌, ◌<◌, ℕ, List, Bool, true, false, not, refl, ap, ap₂, sym, subst, arith}
+use Rattle.std.proofs.lemmas.List.{ext_get_or}
+use Rattle.circ_model.specs.Meaning.{Pair, places_of}
+use Rattle.class_partition.specs.declared.classes.Needed.{Needed}
+use Rattle.class_partition.specs.Classes.{Classes, ArePartition, IsNeeded, Passes, least_of, phase_of}
+use Rattle.verdict_stamp.specs.Versions.{Standing, Passed, IsPassed}
+use Rattle.refine_board.specs.States.{IsNeededPair}
+use Rattle.refine_board.specs.Running.{IsAbout, IsAsked, IsUnder}
+
+pub counted_pair : (pair : Pair) (k : ℕ) (classes : Classes) (w : Passed) (p : Needed) → IsPassed w → IsUnder pair k classes w.version → IsAbout w p → IsNeededPair (places_of pair) classes p × Passes pair k classes p.member
+counted_pair pair k classes w p is under about =
+    let needed_1 : IsNeeded (places_of pair) w.version.classes w.member = subst (λ (x : Pair). IsNeeded (places_of x) w.version.classes w.member) under.0 is.is_needed in
+    let needed_2 : IsNeeded (places_of pair) classes w.member = subst (λ (c : Classes). IsNeeded (places_of pair) c w.member) under.2 needed_1 in
+    let needed_3 : IsNeeded (places_of pair) classes p.member = subst (IsNeeded (places_of pair) classes) about.0 needed_2 in
+    let passes_1 : Passes pair w.version.k w.version.classes w.member = subst (λ (x : Pair). Passes x w.version.k w.version.classes w.member) under.0 is.passes in
+    let passes_2 : Passes pair k w.version.classes w.member = subst (λ (n : ℕ). Passes pair n w.version.classes w.member) under.1 passes_1 in
+    let passes_3 : Passes pair k classes w.member = subst (λ (c : Classes). Passes pair k c w.member) under.2 passes_2 in
+    let rep_1 : least_of classes w.member ≡ p.rep = subst (λ (c : Classes). least_of c w.member ≡ p.rep) under.2 about.1 in
+    let rep_2 : least_of classes p.member ≡ p.rep = subst (λ (m : ℕ). least_of classes m ≡ p.rep) about.0 rep_1 in
+    ((needed_3, rep_2), subst (Passes pair k classes) about.0 passes_3)
+
+pub not_true : (b : Bool) → not b ≡ true → b ≡ false
+not_true true e = cc
+not_true false e = refl
+
+-- two partitions of as many places with the same least places and phases
+pub same_partition : (n : ℕ) (a b : Classes) → ArePartition n a → ArePartition n b → ((q : ℕ) → q < n → least_of a q ≡ least_of b q) → ((q : ℕ) → q < n → phase_of a q ≡ phase_of b q) → a ≡ b
+same_partition n a b is_a is_b least phase =
+    let l : a.least ≡ b.least = ext_get_or 0 a.least b.least (is_a.least_len ∙ sym is_b.least_len) (λ i lt. least i (omega (arith, lt, is_a.least_len))) in
+    let f : a.phase ≡ b.phase = ext_get_or false a.phase b.phase (is_a.phase_len ∙ sym is_b.phase_len) (λ i lt. phase i (omega (arith, lt, is_a.phase_len))) in
+    ap₂ (λ (x : List ℕ) (y : List Bool). record { least = x; phase = y }) l f
+
+-- the pair of a place, under a version with the board's classes
+pub asked_of : (pair : Pair) (k : ℕ) (classes : Classes) (v : Standing) (p : Needed) → IsUnder pair k classes v → IsNeededPair (places_of pair) classes p → IsAsked v p
+asked_of pair k classes v p under need =
+    let n1 : IsNeeded (places_of pair) v.classes p.member = subst (λ (c : Classes). IsNeeded (places_of pair) c p.member) (sym under.2) need.0 in
+    let n2 : IsNeeded (places_of v.pair) v.classes p.member = subst (λ (x : Pair). IsNeeded (places_of x) v.classes p.member) (sym under.0) n1 in
+    (n2, sym need.1 ∙ ap (λ (c : Classes). least_of c p.member) (sym under.2))
+
+-- a verdict on a pair that was asked is about it
+pub about_of : (v : Standing) (p : Needed) (w : Passed) → IsAsked v p → w.version ≡ v → w.member ≡ p.member → IsAbout w p
+about_of v p w asked version member =
+    (member, ap (λ (s : Standing). least_of s.classes w.member) version ∙ ap (least_of v.classes) member ∙ sym asked.1)

@@ -1,0 +1,11 @@
+pub mod Supported
+pub mod Splits
+pub mod Offers
+pub mod Timely
+pub mod Outdated
+pub mod Orderly
+pub mod Runs
+pub mod Judged
+pub mod Dividing
+pub mod Replaying
+pub mod Counting

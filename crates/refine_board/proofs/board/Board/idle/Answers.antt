@@ -1,0 +1,21 @@
+use Rattle.std.proofs.Common.{◌≡◌, ◌<◌, ◌-◌, ℕ, length, arith, refl, sym, subst, ap}
+use Rattle.circ_model.specs.Meaning.{places_of}
+use Rattle.refine_board.specs.declared.journal.Step.TheVariants.{Idle}
+use Rattle.refine_board.specs.States.{State, NoneOpen, SomeOut, called}
+use Rattle.refine_board.specs.Running.{Running, IsRunning, state_of}
+use Rattle.refine_board.proofs.Runs.{running_after, held_after}
+use Rattle.refine_board.proofs.board.Board.idle.Goals as goal
+
+pub invariant_of-self : goal.invariant_of-self
+invariant_of-self g c =
+    let i = c.self.inside in
+    let before : State = state_of i.version i.marks.items i.calls.items i.offers.items in
+    let was : IsRunning g.L.Run.pair g.L.Run.k g.L.Run.workers g.L.Run.opening before i.journal.entries = c.self.invariant.0 in
+    let held = c.self.invariant.2 in
+    let room : i.journal.room - i.owed.total ≡ c.args.self.now.room = ap (λ (r : Running). r.room) c.self.view_is in
+    let q : ℕ = c.args.party in
+    let inside : q < length before.calls = omega (arith, c.requires.party, was.calls) in
+    let none : NoneOpen (places_of g.L.Run.pair) before = subst (λ (r : Running). NoneOpen (places_of g.L.Run.pair) r.state) (sym c.self.view_is) c.requires.none in
+    let out : SomeOut (places_of g.L.Run.pair) before = subst (λ (r : Running). SomeOut (places_of g.L.Run.pair) r.state) (sym c.self.view_is) c.requires.out in
+    let is = running_after g.L.Run.pair g.L.Run.k g.L.Run.workers g.L.Run.opening before (called q before) i.journal.entries q Idle (inside, refl, (none, out, refl)) tt was in
+    (rw (c.note.ensures.calls, c.note.ensures.entries) is, c.self.invariant.1, rw c.note.ensures.entries (held_after (places_of g.L.Run.pair) i.cursor i.cursor i.waiting i.owed.total i.journal.room c.note.new.journal.room g.L.Ledger.parts i.rest.parts before _ i.journal.entries _ held c.note.ensures.room (omega (arith, room, c.requires.room)) held.passed held.cursor_in))

@@ -1,0 +1,35 @@
+-- What a call's answer says of its entry.
+use Rattle.std.specs.Prelude.{◌≡◌, ℕ, List, Bool}
+use Rattle.class_partition.specs.declared.classes.Needed.{Needed}
+use Rattle.refine_board.specs.declared.journal.Step.{Step}
+use Rattle.refine_board.specs.declared.journal.Step.TheVariants as step
+use Rattle.refine_board.specs.declared.answers.Take.{Take}
+use Rattle.refine_board.specs.declared.answers.Take.TheVariants.{Offer, Idle, Done}
+use Rattle.refine_board.specs.declared.answers.Kept.{Kept}
+use Rattle.refine_board.specs.declared.answers.Kept.TheVariants as kept_as
+use Rattle.refine_board.specs.declared.answers.Cut.{Cut}
+use Rattle.refine_board.specs.declared.answers.Cut.TheVariants as cut_as
+use Rattle.refine_board.specs.Running.{Running}
+
+-- what a party is answered that asks for work
+abbrev pub taken : {L : Type 0} → Take L → Step
+taken (Offer o) = step.Offered o.pair
+taken Idle = step.Idle
+taken Done = step.Done
+
+-- the offer is the party's, of the board's number
+abbrev pub IsOwnOffer : {L : Type 0} → Running → ℕ → Take L → Type 0
+IsOwnOffer before party (Offer o) = (o.party ≡ party) × (o.number ≡ before.state.number)
+IsOwnOffer before party Idle = Unit {0}
+IsOwnOffer before party Done = Unit {0}
+
+-- what came of a verdict
+abbrev pub kept_step : Kept → Needed → Step
+kept_step kept_as.Counted p = step.Counted p
+kept_step kept_as.Stale p = step.Stale p
+
+-- what came of a vector
+abbrev pub cut_step : Cut → List Bool → Step
+cut_step (cut_as.Split n) bits = step.Split bits n
+cut_step cut_as.Already bits = step.Already bits
+cut_step cut_as.Foreign bits = step.Foreign

@@ -1,0 +1,7 @@
+pub mod States
+pub mod Schedules
+pub mod Tallies
+pub mod Running
+pub mod Answers
+pub mod Laws
+pub mod Replays

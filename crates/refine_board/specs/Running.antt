@@ -1,0 +1,123 @@
+-- What is true of a running board at every moment, and what a call adds.
+use Rattle.std.specs.Prelude.{◌≡◌, ℕ, ◌+◌, ◌<◌, ◌≤◌, List, [], ◌∷◌, ◌++◌, ◌^◌, length, slice_index, slice_index_or, set, ◌≢◌, ◌==◌, if◌then◌else◌, Option, Some, None}
+use Rattle.std.specs.List.{All}
+use Rattle.circ_model.specs.Meaning.{Pair, places_of}
+use Rattle.circ_model.specs.Correspondence.{MaySplit}
+use Rattle.class_partition.specs.declared.classes.Needed.{Needed}
+use Rattle.class_partition.specs.Classes.{Classes, HoldIn, IsNeeded, least_of}
+use Rattle.verdict_stamp.specs.Versions.{Standing, Passed}
+use Rattle.verdict_stamp.specs.Versions as vector
+use Rattle.refine_board.specs.declared.marks.Mark.{Mark}
+use Rattle.refine_board.specs.declared.marks.Mark.TheVariants.{Open, Proved}
+use Rattle.refine_board.specs.declared.marks.LastOffer.{LastOffer}
+use Rattle.refine_board.specs.declared.journal.Step.{Step}
+use Rattle.refine_board.specs.declared.journal.Step.TheVariants.{Offered, Idle, Done, Counted, Stale, Split, Already, Foreign, Back}
+use Rattle.refine_board.specs.declared.journal.Entry.{Entry}
+use Rattle.refine_board.specs.States.{State, IsOpen, mark_of, offer_of}
+use Rattle.refine_board.specs.Schedules.{IsStep, IsSupported, Leads, opened}
+
+-- a journal's entries, and how many more it has room for
+pub record Written : Type 0 where
+  pub entries : List Entry
+  pub room : ℕ
+
+-- a running board: its state, its journal, and the room in it that no answer is owed
+pub record Running : Type 0 where
+  pub state : State
+  pub entries : List Entry
+  pub room : ℕ
+
+-- the journal is legal and leads from the opening to the state
+pub record IsRunning (pair : Pair) (k workers : ℕ) (opening state : State) (entries : List Entry) : Type 0 where
+  pub leads : Leads pair k opening entries state
+  pub supported : IsSupported pair k state
+  pub calls : length state.calls ≡ workers + 1
+  pub offers : length state.offers ≡ workers + 1
+  pub few : (q : ℕ) → slice_index state.calls q ≤ length entries
+  pub within : (q : ℕ) (o : LastOffer) → offer_of state q ≡ Some o → o.pair.member < places_of pair
+
+-- the versions, now and at the opening, are of the run
+pub record IsOfRun (pair : Pair) (k workers : ℕ) (opening : State) (version first : Standing) : Type 0 where
+  pub pair_is : version.pair ≡ pair
+  pub k_is : version.k ≡ k
+  pub first_pair : first.pair ≡ pair
+  pub first_k : first.k ≡ k
+  pub opening_is : opening ≡ opened pair workers first.classes first.number
+
+-- no place below the cursor is open
+abbrev pub IsPassedBy : ℕ → State → ℕ → Type 0
+IsPassedBy places state cursor = (m : ℕ) → m < cursor → IsOpen places state m → ⊥
+
+-- the cursor, the answers that are owed with their room, and the parts of the ledger that are left
+pub record IsHeld (places : ℕ) (state : State) (cursor waiting owed room entries parts rest : ℕ) : Type 0 where
+  pub passed : IsPassedBy places state cursor
+  pub cursor_in : cursor ≤ places
+  pub waiting_is : waiting ≡ owed
+  pub has_room : owed ≤ room
+  pub parts_left : parts ≤ rest + entries
+  pub many : 2 ^ 62 ≤ parts
+
+-- the state that these fields are
+abbrev pub state_of : Standing → List Mark → List ℕ → List (Option LastOffer) → State
+state_of version marks calls offers = record { classes = version.classes; number = version.number; marks = marks; calls = calls; offers = offers }
+
+-- a party's next entry
+abbrev pub next_entry : State → ℕ → Step → Entry
+next_entry state party step = record { worker = party; call = slice_index state.calls party; step = step }
+
+-- one entry more, and its step
+abbrev pub Appends : ℕ → Running → Running → ℕ → Step → Type 0
+Appends places before after party step = IsStep places (next_entry before.state party step) before.state after.state × (after.entries ≡ before.entries ++ next_entry before.state party step ∷ [])
+
+-- entries of this party were added
+abbrev pub IsExtended : ℕ → List Entry → List Entry → Type 0
+IsExtended party before after = (more : List Entry) × (after ≡ before ++ more) × All (λ (e : Entry). e.worker ≡ party) more
+
+-- a place's pair that a party is to prove under a version
+abbrev pub IsAsked : Standing → Needed → Type 0
+IsAsked v p = IsNeeded (places_of v.pair) v.classes p.member × (p.rep ≡ least_of v.classes p.member)
+
+-- an answer that is owed
+pub record Owed : Type 0 where
+  pub party : ℕ
+  pub pair : Needed
+  pub number : ℕ
+
+-- the verdict is of the pair
+abbrev pub IsAbout : Passed → Needed → Type 0
+IsAbout w p = (w.member ≡ p.member) × (least_of w.version.classes w.member ≡ p.rep)
+
+-- the version is of this pair of netlists and this k, with these classes
+abbrev pub IsUnder : Pair → ℕ → Classes → Standing → Type 0
+IsUnder pair k classes v = (v.pair ≡ pair) × (v.k ≡ k) × (v.classes ≡ classes)
+
+-- the vector is of this pair of netlists and this k
+abbrev pub IsOf : Pair → ℕ → vector.Split → Type 0
+IsOf pair k x = (x.pair ≡ pair) × (x.k ≡ k)
+
+-- a needed place has this mark
+abbrev pub IsMarkedAt : List ℕ → List Mark → Mark → ℕ → Type 0
+IsMarkedAt least marks mark p = (slice_index least p ≢ p) × (slice_index_or marks p Open ≡ mark)
+
+abbrev pub IsCountedAt : State → ℕ → Type 0
+IsCountedAt board m = mark_of board m ≡ Proved
+
+abbrev pub AreCountedBelow : ℕ → State → ℕ → Type 0
+AreCountedBelow places board p = (m : ℕ) → m < p → IsNeeded places board.classes m → mark_of board m ≡ Proved
+
+-- the marks after an offer is given up
+abbrev pub reopened_marks : Option LastOffer → ℕ → List Mark → List Mark
+reopened_marks None number marks = marks
+reopened_marks (Some o) number marks = if o.number == number then set marks o.pair.member Open else marks
+
+-- the entries that only give an offer up, where they are legal
+abbrev pub Frees : Pair → ℕ → State → Step → Type 0
+Frees pair k board (Stale p) = Unit {0}
+Frees pair k board (Back p) = Unit {0}
+Frees pair k board Foreign = Unit {0}
+Frees pair k board (Already bits) = HoldIn (places_of pair) board.classes bits × MaySplit pair k bits
+Frees pair k board (Offered p) = ⊥
+Frees pair k board Idle = ⊥
+Frees pair k board Done = ⊥
+Frees pair k board (Counted p) = ⊥
+Frees pair k board (Split bits n) = ⊥

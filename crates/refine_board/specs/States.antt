@@ -1,0 +1,76 @@
+-- A board of refinement as plain data, and the changes that its entries make.
+use Rattle.std.specs.Prelude.{◌≡◌, ◌==◌, ℕ, ◌+◌, ◌<◌, List, [], set, replicate, if◌then◌else◌, slice_index, slice_index_or, Option, Some, None}
+use Rattle.circ_model.specs.Netlist.{Netlist}
+use Rattle.circ_model.specs.Meaning.{Pair}
+use Rattle.class_partition.specs.declared.classes.Needed.{Needed}
+use Rattle.class_partition.specs.Classes.{Classes, IsNeeded, least_of}
+use Rattle.refine_board.specs.declared.marks.Mark.{Mark}
+use Rattle.refine_board.specs.declared.marks.Mark.TheVariants.{Open, Out, Proved}
+use Rattle.refine_board.specs.declared.marks.LastOffer.{LastOffer}
+
+pub record State : Type 0 where
+  pub classes : Classes
+  pub number : ℕ  -- of the splits that led to the classes
+  pub marks : List Mark  -- by place; a needed pair has its member's
+  pub calls : List ℕ  -- by party
+  pub offers : List (Option LastOffer)  -- by party
+
+abbrev pub mark_of : State → ℕ → Mark
+mark_of board p = slice_index_or board.marks p Open
+
+abbrev pub offer_of : State → ℕ → Option LastOffer
+offer_of board party = slice_index_or board.offers party None
+
+-- a place that isn't the least of its class, with that place
+abbrev pub IsNeededPair : ℕ → Classes → Needed → Type 0
+IsNeededPair places classes p = IsNeeded places classes p.member × (least_of classes p.member ≡ p.rep)
+
+abbrev pub IsOpen : ℕ → State → ℕ → Type 0
+IsOpen places board p = IsNeeded places board.classes p × (mark_of board p ≡ Open)
+
+-- the open pair with the least member
+abbrev pub IsNextOpen : ℕ → State → Needed → Type 0
+IsNextOpen places board p = IsNeededPair places board.classes p × (mark_of board p.member ≡ Open) × ((m : ℕ) → m < p.member → IsOpen places board m → ⊥)
+
+abbrev pub NoneOpen : ℕ → State → Type 0
+NoneOpen places board = (m : ℕ) → IsOpen places board m → ⊥
+
+abbrev pub SomeOut : ℕ → State → Type 0
+SomeOut places board = (m : ℕ) × IsNeeded places board.classes m × (mark_of board m ≡ Out)
+
+abbrev pub AllCounted : ℕ → State → Type 0
+AllCounted places board = (m : ℕ) → IsNeeded places board.classes m → mark_of board m ≡ Proved
+
+-- the party has made a call more
+abbrev pub called : ℕ → State → State
+called party board = record board { calls = set board.calls party (slice_index board.calls party + 1) }
+
+abbrev pub offered : ℕ → Needed → State → State
+offered party p board = record board { marks = set board.marks p.member Out; offers = set board.offers party (Some (record { pair = p; number = board.number })) }
+
+abbrev pub cleared : ℕ → State → State
+cleared party board = record board { offers = set board.offers party None }
+
+abbrev pub marked : ℕ → Mark → State → State
+marked p mark board = record board { marks = set board.marks p mark }
+
+-- the pair of an offer of this number is open again
+abbrev pub reopened : Option LastOffer → State → State
+reopened None board = board
+reopened (Some offer) board = if offer.number == board.number then marked offer.pair.member Open board else board
+
+abbrev pub released : ℕ → State → State
+released party board = cleared party (reopened (offer_of board party) board)
+
+abbrev pub divided : ℕ → Classes → State → State
+divided places classes board = record board { classes = classes; number = board.number + 1; marks = replicate places Open }
+
+-- what a brand names before a call picks its run
+abbrev pub no_net : Netlist
+no_net = record { max_var = 0; inputs = []; latches = []; outputs = []; gates = [] }
+
+abbrev pub no_pair : Pair
+no_pair = record { left = no_net; right = no_net }
+
+abbrev pub no_state : State
+no_state = record { classes = record { least = []; phase = [] }; number = 0; marks = []; calls = []; offers = [] }

@@ -1,0 +1,212 @@
+//! The board that workers share, under a lock, and its calls. Each appends one entry to the journal, with the party's next
+//! number and its answer, and changes the state as that entry does; between the calls the journal is legal, and leads from
+//! the opening to the state.
+ghost use Rattle.std.specs.Prelude.{◌≡◌, ◌≢◌, ◌<◌, ◌≤◌, ◌+◌, ◌^◌, ◌↔◌, [], ℕ, IsTrue, IfOk, OnErr, true, false};
+ghost use Rattle.circ_model.specs.Meaning.{places_of};
+ghost use Rattle.class_partition.specs.Classes.{AreOfGreatest};
+ghost use Rattle.refine_board.specs.States.{AllCounted};
+ghost use Rattle.refine_board.specs.Schedules.{Leads, opened};
+ghost use Rattle.refine_board.specs.Running.{Appends, IsAbout, IsUnder, IsOf};
+ghost use Rattle.refine_board.specs.Answers.{taken, IsOwnOffer, kept_step, cut_step};
+
+use crate::answers::{Cut, Kept, Offer, Take};
+use crate::journal::{Journal, Step};
+use crate::marks::{LastOffer, Mark, no_calls, no_offers, open_marks};
+use crate::run::Run;
+use crate::same::is_under;
+use std::alloc::{AllocError, Global};
+use std::marker::Model;
+use std::sync::ledger::{Blank, Book, Share};
+use verdict_stamp::{Vector, Verdict, Version};
+
+/// The shared board of a run. Its parties are the workers, and one more that works alone at the end. Contracts see its state,
+/// its journal's entries, and the room in the journal that no answer is owed.
+#[derive(Drop)]
+pub struct Board<'p, L: Run> {
+    pub(crate) version: Version<'p>,
+    pub(crate) first: Version<'p>,
+    pub(crate) marks: Vec<Mark>,
+    pub(crate) calls: Vec<u64>,
+    pub(crate) offers: Vec<Option<LastOffer>>,
+    pub(crate) journal: Journal,
+    pub(crate) cursor: u32,
+    pub(crate) owed: Book<L>,
+    pub(crate) rest: Share<L>,
+    pub(crate) waiting: usize,
+}
+
+impl<'p, L: Run> Model for Board<'p, L> {
+    ghost use Rattle.std.specs.Prelude.{◌-◌, length};
+    ghost use Rattle.circ_model.specs.Meaning.{places_of};
+    ghost use Rattle.refine_board.specs.Running.{Running, IsRunning, IsOfRun, IsHeld, state_of};
+
+    ghost Value = { Running };
+
+    ghost view = { λ b. record { state = state_of b.version b.marks.items b.calls.items b.offers.items; entries = b.journal.entries; room = b.journal.room - b.owed.total } };
+
+    ghost invariant = { λ b. IsRunning L.pair L.k L.workers L.opening (state_of b.version b.marks.items b.calls.items b.offers.items) b.journal.entries
+        × IsOfRun L.pair L.k L.workers L.opening b.version b.first
+        × IsHeld (places_of L.pair) (state_of b.version b.marks.items b.calls.items b.offers.items) b.cursor b.waiting b.owed.total b.journal.room (length b.journal.entries) L.parts b.rest.parts };
+}
+
+impl<'p, L: Run> Board<'p, L> {
+    /// The board on which a run begins: all pairs are open. The blank's ledger is the run's.
+    pub fn open(
+        alloc: Global,
+        blank: Blank,
+        first: Version<'p>,
+        workers: u32,
+    ) -> Result<Board<'p, L>, AllocError>
+        requires name { (blank.name ≡ L.name) × (blank.parts ≡ L.parts) }
+        requires parts { 2 ^ 62 ≤ L.parts }
+        requires product { first.pair ≡ L.pair }
+        requires k { first.k ≡ L.k }
+        requires workers { workers ≡ L.workers }
+        requires opening { L.opening ≡ opened L.pair L.workers first.classes first.number }
+        ensures { IfOk result (λ b. (b.state ≡ L.opening) × (b.entries ≡ [])) }
+    {
+        let version = first.copy(alloc)?;
+        let places = first.classes().len();
+        let parties = workers as usize + 1;
+        let marks = open_marks(alloc, places)?;
+        let calls = no_calls(alloc, parties)?;
+        let offers = no_offers(alloc, parties)?;
+        let (owed, rest) = blank.open::<L>();
+        Ok(Board {
+            version,
+            first,
+            marks,
+            calls,
+            offers,
+            journal: Journal::new(alloc),
+            cursor: 0,
+            owed,
+            rest,
+            waiting: 0,
+        })
+    }
+
+    /// Gives the party the open pair with the least member, or says why there is none. It makes the room of the answer's
+    /// entry too, so the answers below take no memory.
+    pub fn take(&mut self, party: u32) -> Result<Take<L>, AllocError>
+        requires party { party < L.workers + 1 }
+        ensures ok { IfOk result (λ t. Appends (places_of L.pair) self.old self.new party (taken t) × IsOwnOffer self.old party t) }
+        ensures err { OnErr result ((self.new.state ≡ self.old.state) × (self.new.entries ≡ self.old.entries)) }
+    {
+        self.spare()?;
+        let at = self.seek();
+        if at < self.places() {
+            return Ok(Take::Offer(self.offer(party, at)));
+        }
+        if self.is_some_out() {
+            self.idle(party);
+            return Ok(Take::Idle);
+        }
+        self.conclude(party);
+        Ok(Take::Done)
+    }
+
+    /// Counts the offer's pair, where the verdict was found for the run's netlists and k under the board's classes. Else the
+    /// verdict is outdated.
+    pub fn keep(&mut self, offer: Offer<L>, verdict: &Verdict<'_, '_>) -> Kept
+        requires about { IsAbout verdict.now offer.pair }
+        ensures step { Appends (places_of L.pair) self.old self.new offer.party (kept_step result offer.pair) }
+        ensures counted { result ≡ Kept.Counted → IsUnder L.pair L.k self.old.state.classes verdict.now.version }
+        ensures stale { result ≡ Kept.Stale → IsUnder L.pair L.k self.old.state.classes verdict.now.version → ⊥ }
+    {
+        let current = self.is_at(verdict.version());
+        let (party, pair) = self.settle(offer);
+        if current {
+            self.count(party, pair, verdict);
+            return Kept::Counted;
+        }
+        self.free(party, Step::Stale(pair));
+        Kept::Stale
+    }
+
+    /// Splits the classes by a vector that was found for the offer, where it is of the run's netlists and k. A split opens
+    /// each needed pair. Nothing splits the classes of the greatest correspondence.
+    pub fn split(&mut self, offer: Offer<L>, vector: Vector<'_>) -> Cut
+        ensures step { Appends (places_of L.pair) self.old self.new offer.party (cut_step result vector.entry.bits) }
+        ensures own { result ≢ Cut.Foreign → IsOf L.pair L.k vector.entry }
+        ensures foreign { result ≡ Cut.Foreign → IsOf L.pair L.k vector.entry → ⊥ }
+        ensures stays { AreOfGreatest L.pair L.k self.old.state.classes → self.new.state.classes ≡ self.old.state.classes }
+    {
+        let own = self.is_of_run(&vector);
+        let (party, _) = self.settle(offer);
+        if own {
+            return self.cut(party, vector);
+        }
+        self.free(party, Step::Foreign);
+        Cut::Foreign
+    }
+
+    /// Gives the work back.
+    pub fn back(&mut self, offer: Offer<L>)
+        ensures { Appends (places_of L.pair) self.old self.new offer.party (Step.Back offer.pair) }
+    {
+        let (party, pair) = self.settle(offer);
+        self.free(party, Step::Back(pair));
+    }
+
+    /// The journal.
+    pub fn journal(&self) -> &Journal
+        ensures entries { result.now.entries ≡ self.entry.now.entries }
+        ensures legal { Leads L.pair L.k L.opening result.now.entries self.entry.now.state }
+    {
+        &self.journal
+    }
+
+    /// The version as it stands.
+    pub fn version(&self) -> &Version<'p>
+        ensures version { IsUnder L.pair L.k self.entry.now.state.classes result.now }
+        ensures number { result.now.number ≡ self.entry.now.state.number }
+    {
+        &self.version
+    }
+
+    /// Whether the board stands at a version: it is of the run's netlists and k, with the board's classes.
+    pub fn is_at(&self, version: &Version<'_>) -> bool
+        ensures { IsTrue result ↔ IsUnder L.pair L.k self.now.state.classes version.now }
+    {
+        let now = &self.version;
+        is_under(version, now.product(), now.k(), now.classes())
+    }
+
+    /// The version on which the board opened, which no call changes.
+    pub fn opening(&self) -> &Version<'p>
+        ensures version { IsUnder L.pair L.k L.opening.classes result.now }
+        ensures number { result.now.number ≡ L.opening.number }
+        ensures opening { L.opening ≡ opened L.pair L.workers result.now.classes result.now.number }
+    {
+        &self.first
+    }
+
+    /// Whether each needed pair is counted; then the classes are those of the greatest correspondence.
+    pub fn done(&self) -> bool
+        ensures yes { result ≡ true → AllCounted (places_of L.pair) self.now.state }
+        ensures no { result ≡ false → AllCounted (places_of L.pair) self.now.state → ⊥ }
+        ensures greatest { result ≡ true → AreOfGreatest L.pair L.k self.now.state.classes }
+    {
+        let _known = self.waiting;
+        if self.is_some_open() {
+            return false;
+        }
+        !self.is_some_out()
+    }
+
+    /// The version as it stands, and the journal, which leads to it from the opening.
+    pub fn close(self) -> (Version<'p>, Journal)
+        ensures version { IsUnder L.pair L.k self.entry.state.classes result.0 }
+        ensures number { result.0.number ≡ self.entry.state.number }
+        ensures entries { result.1.entries ≡ self.entry.entries }
+        ensures legal { Leads L.pair L.k L.opening self.entry.entries self.entry.state }
+    {
+        let Board {
+            version,
+            journal,
+            ..
+        } = self;
+        (version, journal)
+    }
+}

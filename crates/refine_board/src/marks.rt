@@ -1,0 +1,120 @@
+//! Marks by place, last offers by party, and the changes of them.
+ghost use Rattle.std.specs.Prelude.{◌≡◌, ◌≢◌, ◌<◌, ◌≤◌, ◌+◌, ◌^◌, ◌++◌, ◌∷◌, [], ℕ, length, set, slice_index, slice_index_or, replicate, Some, None, IfOk};
+ghost use Rattle.refine_board.specs.declared.marks.Mark.TheVariants.{Open};
+ghost use Rattle.refine_board.specs.declared.marks.LastOffer.{LastOffer};
+ghost use Rattle.refine_board.specs.Running.{IsMarkedAt, reopened_marks};
+
+use crate::journal::{Entry, Journal, Step};
+use class_partition::{Classes, Needed};
+use std::alloc::{AllocError, Global};
+
+/// How far a needed pair is.
+#[derive(Clone, Copy, PartialEq, Eq)]
+pub enum Mark {
+    /// Nobody has it.
+    Open,
+    /// It was given to a party.
+    Out,
+    /// It is counted: it passes under the board's classes.
+    Proved,
+}
+
+/// A party's last offer, and the board's number at that moment.
+#[derive(Clone, Copy)]
+pub struct LastOffer {
+    /// The pair.
+    pub pair: Needed,
+    /// The number.
+    pub number: u32,
+}
+
+// The first needed place with this mark from `from` on, or the number of places.
+pub(crate) fn first_marked(classes: &Classes, marks: &[Mark], mark: Mark, from: u32) -> u32
+    requires lengths { length marks.now ≡ length classes.now.least }
+    requires from { from ≤ length classes.now.least }
+    ensures bounds { (from ≤ result) × (result ≤ length classes.now.least) }
+    ensures before { (m : ℕ) → from ≤ m → m < result → IsMarkedAt classes.now.least marks.now mark m → ⊥ }
+    ensures found { result < length classes.now.least → IsMarkedAt classes.now.least marks.now mark result }
+{
+    let n = classes.len();
+    let mut p = from;
+    while p < n {
+        if classes.rep(p) != p && marks[p as usize] == mark {
+            break;
+        }
+        p += 1;
+    }
+    p
+}
+
+// Counts the party's call and writes its entry.
+pub(crate) fn note(calls: &mut Vec<u64>, journal: &mut Journal, party: u32, step: Step)
+    requires party { party < length calls.old.items }
+    requires few { slice_index calls.old.items party ≤ length journal.old.entries }
+    requires room { 0 < journal.old.room }
+    ensures calls { calls.new.items ≡ set calls.old.items party (slice_index calls.old.items party + 1) }
+    ensures entries { journal.new.entries ≡ journal.old.entries ++ record { worker = party; call = slice_index calls.old.items party; step = step } ∷ [] }
+    ensures room { journal.new.room + 1 ≡ journal.old.room }
+{
+    let _written = journal.len();
+    let call = calls[party as usize];
+    calls[party as usize] = call + 1;
+    journal.push(Entry {
+        worker: party,
+        call,
+        step,
+    });
+}
+
+// Takes the party's offer from it: its pair is open again where the offer has this number. Answers the place from
+// which to look for open pairs.
+pub(crate) fn release(
+    number: u32,
+    marks: &mut Vec<Mark>,
+    offers: &mut Vec<Option<LastOffer>>,
+    cursor: u32,
+    party: u32,
+) -> u32
+    requires party { party < length offers.old.items }
+    requires within { (o : LastOffer) → slice_index_or offers.old.items party None ≡ Some o → o.pair.member < length marks.old.items }
+    ensures marks { marks.new.items ≡ reopened_marks (slice_index_or offers.old.items party None) number marks.old.items }
+    ensures offers { offers.new.items ≡ set offers.old.items party None }
+    ensures cursor { result ≤ cursor }
+    ensures passed { (m : ℕ) → m < result → slice_index_or marks.new.items m Open ≡ Open → slice_index_or marks.old.items m Open ≡ Open }
+{
+    let last = offers[party as usize];
+    offers[party as usize] = None;
+    let Some(offer) = last else {
+        return cursor;
+    };
+    if offer.number != number {
+        return cursor;
+    }
+    let member = offer.pair.member;
+    marks[member as usize] = Mark::Open;
+    if member < cursor { member } else { cursor }
+}
+
+pub(crate) fn open_all(marks: &mut Vec<Mark>)
+    ensures { marks.new.items ≡ replicate (length marks.old.items) Open }
+{
+    marks.fill(Mark::Open);
+}
+
+pub(crate) fn open_marks(alloc: Global, places: u32) -> Result<Vec<Mark>, AllocError>
+    ensures { IfOk result (λ v. v.items ≡ replicate places Open) }
+{
+    vec![in alloc; Mark::Open; places as usize]
+}
+
+pub(crate) fn no_calls(alloc: Global, parties: usize) -> Result<Vec<u64>, AllocError>
+    ensures { IfOk result (λ v. v.items ≡ replicate parties 0) }
+{
+    vec![in alloc; 0; parties]
+}
+
+pub(crate) fn no_offers(alloc: Global, parties: usize) -> Result<Vec<Option<LastOffer>>, AllocError>
+    ensures { IfOk result (λ v. v.items ≡ replicate parties None) }
+{
+    vec![in alloc; None; parties]
+}

@@ -1,0 +1,285 @@
+//! The steps of a board, one for each entry: each changes the state and writes its entry.
+ghost use Rattle.std.specs.Prelude.{◌≡◌, ◌≢◌, ◌<◌, ◌≤◌, ◌+◌, ◌^◌, ℕ, IsTrue, ◌↔◌, length, OnOk, true, false};
+ghost use Rattle.circ_model.specs.Meaning.{places_of};
+ghost use Rattle.class_partition.specs.Classes.{AreOfGreatest, IsNeeded, class_count};
+ghost use Rattle.refine_board.specs.States.{IsNeededPair, IsOpen, NoneOpen, SomeOut, AllCounted};
+ghost use Rattle.refine_board.specs.Running.{Appends, AreCountedBelow, Frees, IsAbout, IsCountedAt, IsExtended, IsUnder, IsOf};
+ghost use Rattle.refine_board.specs.Answers.{cut_step};
+
+use crate::answers::{Cut, Offer};
+use crate::board::Board;
+use crate::journal::Step;
+use crate::marks::{LastOffer, Mark, first_marked, note, open_all, release};
+use crate::run::Run;
+use class_partition::Needed;
+use std::alloc::AllocError;
+use verdict_stamp::{Vector, Verdict};
+
+impl<'p, L: Run> Board<'p, L> {
+    // Makes room for an entry and its answer.
+    pub(crate) fn spare(&mut self) -> Result<(), AllocError>
+        ensures state { self.new.state ≡ self.old.state }
+        ensures entries { self.new.entries ≡ self.old.entries }
+        ensures ok { OnOk result ((2 ≤ self.new.room) × (length self.old.entries < 2 ^ 60)) }
+    {
+        let waiting = self.waiting;
+        if self.journal.len() >= 1 << 60 || waiting >= 1 << 60 {
+            return Err(AllocError);
+        }
+        self.journal.reserve(waiting + 2)
+    }
+
+    // The number of places.
+    pub(crate) fn places(&self) -> u32
+        ensures places { result ≡ places_of L.pair }
+        ensures classes { 0 < class_count (places_of L.pair) self.now.state.classes }
+        ensures marks { length self.now.state.marks ≡ places_of L.pair }
+        ensures greatest { AllCounted (places_of L.pair) self.now.state → AreOfGreatest L.pair L.k self.now.state.classes }
+    {
+        self.version.classes().len()
+    }
+
+    // The next open place, or the number of places.
+    pub(crate) fn seek(&mut self) -> u32
+        ensures same { self.new ≡ self.old }
+        ensures bound { result ≤ places_of L.pair }
+        ensures found { result < places_of L.pair → IsOpen (places_of L.pair) self.old.state result }
+        ensures before { (m : ℕ) → m < result → IsOpen (places_of L.pair) self.old.state m → ⊥ }
+    {
+        let at = first_marked(self.version.classes(), &self.marks, Mark::Open, self.cursor);
+        self.cursor = at;
+        at
+    }
+
+    // Whether some pair is open.
+    pub(crate) fn is_some_open(&self) -> bool
+        ensures some { result ≡ true → (m : ℕ) × IsOpen (places_of L.pair) self.now.state m }
+        ensures none { result ≡ false → NoneOpen (places_of L.pair) self.now.state }
+    {
+        let classes = self.version.classes();
+        first_marked(classes, &self.marks, Mark::Open, self.cursor) < classes.len()
+    }
+
+    // Whether some pair is out.
+    pub(crate) fn is_some_out(&self) -> bool
+        ensures some { result ≡ true → SomeOut (places_of L.pair) self.now.state }
+        ensures none { result ≡ false → NoneOpen (places_of L.pair) self.now.state → AllCounted (places_of L.pair) self.now.state }
+    {
+        let classes = self.version.classes();
+        first_marked(classes, &self.marks, Mark::Out, 0) < classes.len()
+    }
+
+    // Whether the vector is of the run's netlists and k.
+    pub(crate) fn is_of_run(&self, vector: &Vector<'_>) -> bool
+        ensures { IsTrue result ↔ IsOf L.pair L.k vector.now }
+    {
+        if vector.k() != self.version.k() {
+            return false;
+        }
+        vector.product().same(self.version.product())
+    }
+
+    // The needed pair of a place.
+    pub(crate) fn pair_at(&self, member: u32) -> Needed
+        requires needed { IsNeeded (places_of L.pair) self.now.state.classes member }
+        ensures pair { IsNeededPair (places_of L.pair) self.now.state.classes result }
+        ensures member { result.member ≡ member }
+        ensures marks { length self.now.state.marks ≡ places_of L.pair }
+    {
+        let rep = self.version.classes().rep(member);
+        Needed { rep, member }
+    }
+
+    // Offers the first open place.
+    pub(crate) fn offer(&mut self, party: u32, member: u32) -> Offer<L>
+        requires party { party < L.workers + 1 }
+        requires is_open { IsOpen (places_of L.pair) self.old.state member }
+        requires first { (m : ℕ) → m < member → IsOpen (places_of L.pair) self.old.state m → ⊥ }
+        requires room { 2 ≤ self.old.room }
+        requires few { length self.old.entries < 2 ^ 60 }
+        ensures step { Appends (places_of L.pair) self.old self.new party (Step.Offered result.pair) }
+        ensures party { result.party ≡ party }
+        ensures number { result.number ≡ self.old.state.number }
+        ensures member { result.pair.member ≡ member }
+        ensures room { self.new.room + 2 ≡ self.old.room }
+    {
+        let _written = self.journal.len();
+        let pair = self.pair_at(member);
+        let number = self.version.number();
+        let Board {
+            marks,
+            calls,
+            offers,
+            journal,
+            owed,
+            rest,
+            waiting,
+            ..
+        } = self;
+        marks[pair.member as usize] = Mark::Out;
+        offers[party as usize] = Some(LastOffer { pair, number });
+        note(calls, journal, party, Step::Offered(pair));
+        *waiting += 1;
+        let mut unit = rest.split_off(1, 0);
+        owed.add(&mut unit, 1);
+        Offer {
+            party,
+            pair,
+            number,
+            unit,
+        }
+    }
+
+    // Tells a party that no pair is open, but some is out.
+    pub(crate) fn idle(&mut self, party: u32)
+        requires party { party < L.workers + 1 }
+        requires none { NoneOpen (places_of L.pair) self.old.state }
+        requires out { SomeOut (places_of L.pair) self.old.state }
+        requires room { 1 ≤ self.old.room }
+        ensures { Appends (places_of L.pair) self.old self.new party Step.Idle }
+    {
+        note(&mut self.calls, &mut self.journal, party, Step::Idle);
+    }
+
+    // Tells a party that each pair is counted.
+    pub(crate) fn conclude(&mut self, party: u32)
+        requires party { party < L.workers + 1 }
+        requires all { AllCounted (places_of L.pair) self.old.state }
+        requires room { 1 ≤ self.old.room }
+        ensures { Appends (places_of L.pair) self.old self.new party Step.Done }
+    {
+        note(&mut self.calls, &mut self.journal, party, Step::Done);
+    }
+
+    // Takes an answer's unit back: its room is free for the answer's entry.
+    pub(crate) fn settle(&mut self, offer: Offer<L>) -> (u32, Needed)
+        ensures state { self.new.state ≡ self.old.state }
+        ensures entries { self.new.entries ≡ self.old.entries }
+        ensures room { self.new.room ≡ self.old.room + 1 }
+        ensures party { (result.0 ≡ offer.party) × (result.0 < L.workers + 1) }
+        ensures pair { result.1 ≡ offer.pair }
+    {
+        let Offer {
+            party,
+            pair,
+            mut unit,
+            ..
+        } = offer;
+        let Board { owed, waiting, .. } = self;
+        owed.audit(&mut unit);
+        owed.sub(&mut unit, 1);
+        *waiting -= 1;
+        (party, pair)
+    }
+
+    // The party's offer is given up, by an entry that does no more.
+    pub(crate) fn free(&mut self, party: u32, step: Step)
+        requires party { party < L.workers + 1 }
+        requires frees { Frees L.pair L.k self.old.state step }
+        requires room { 1 ≤ self.old.room }
+        ensures { Appends (places_of L.pair) self.old self.new party step }
+    {
+        let Board {
+            version,
+            marks,
+            calls,
+            offers,
+            journal,
+            cursor,
+            ..
+        } = self;
+        *cursor = release(version.number(), marks, offers, *cursor, party);
+        note(calls, journal, party, step);
+    }
+
+    // The pair is counted.
+    pub(crate) fn count(&mut self, party: u32, pair: Needed, verdict: &Verdict<'_, '_>)
+        requires party { party < L.workers + 1 }
+        requires about { IsAbout verdict.now pair }
+        requires current { IsUnder L.pair L.k self.old.state.classes verdict.now.version }
+        requires room { 1 ≤ self.old.room }
+        ensures { Appends (places_of L.pair) self.old self.new party (Step.Counted pair) }
+    {
+        let _passed = verdict.member();
+        let Board {
+            marks,
+            calls,
+            offers,
+            journal,
+            ..
+        } = self;
+        marks[pair.member as usize] = Mark::Proved;
+        offers[party as usize] = None;
+        note(calls, journal, party, Step::Counted(pair));
+    }
+
+    // Splits the classes by a vector of the run, after which each needed pair is open; or it splits none.
+    pub(crate) fn cut(&mut self, party: u32, vector: Vector<'_>) -> Cut
+        requires party { party < L.workers + 1 }
+        requires own { IsOf L.pair L.k vector }
+        requires room { 1 ≤ self.old.room }
+        ensures step { Appends (places_of L.pair) self.old self.new party (cut_step result vector.entry.bits) }
+        ensures own { result ≢ Cut.Foreign }
+        ensures stays { AreOfGreatest L.pair L.k self.old.state.classes → self.new.state.classes ≡ self.old.state.classes }
+    {
+        let Board {
+            version,
+            marks,
+            calls,
+            offers,
+            journal,
+            cursor,
+            ..
+        } = self;
+        let added = version.split_by(&vector);
+        let bits = vector.into_bits();
+        if added == 0 {
+            *cursor = release(version.number(), marks, offers, *cursor, party);
+            note(calls, journal, party, Step::Already(bits));
+            return Cut::Already;
+        }
+        *cursor = 0;
+        open_all(marks);
+        offers[party as usize] = None;
+        note(calls, journal, party, Step::Split(bits, added));
+        Cut::Split(added)
+    }
+
+    // Whether the place has an open pair.
+    pub(crate) fn is_open_at(&self, member: u32) -> bool
+        requires needed { IsNeeded (places_of L.pair) self.now.state.classes member }
+        ensures yes { result ≡ true → IsOpen (places_of L.pair) self.now.state member }
+    {
+        self.marks[member as usize] == Mark::Open
+    }
+
+    // Whether the place has a needed pair that isn't counted.
+    pub(crate) fn is_wanted(&self, member: u32) -> bool
+        requires place { member < places_of L.pair }
+        ensures yes { result ≡ true → IsNeeded (places_of L.pair) self.now.state.classes member }
+        ensures no { result ≡ false → IsNeeded (places_of L.pair) self.now.state.classes member → IsCountedAt self.now.state member }
+    {
+        if self.version.classes().rep(member) == member {
+            return false;
+        }
+        self.marks[member as usize] != Mark::Proved
+    }
+
+    // The party takes the pair of a place, where it is open, to answer it at once.
+    pub(crate) fn claim(&mut self, party: u32, member: u32)
+        requires party { party < L.workers + 1 }
+        requires needed { IsNeeded (places_of L.pair) self.old.state.classes member }
+        requires below { AreCountedBelow (places_of L.pair) self.old.state member }
+        requires room { 2 ≤ self.old.room }
+        requires few { length self.old.entries < 2 ^ 60 }
+        ensures classes { self.new.state.classes ≡ self.old.state.classes }
+        ensures below { AreCountedBelow (places_of L.pair) self.new.state member }
+        ensures entries { IsExtended party self.old.entries self.new.entries }
+        ensures room { 1 ≤ self.new.room }
+    {
+        if self.is_open_at(member) {
+            let offer = self.offer(party, member);
+            self.settle(offer);
+        }
+    }
+}
