@@ -1,0 +1,426 @@
+//! Boards of worked pairs, turn by turn, and schedules drawn from seeds.
+ghost use Rattle.std.specs.Prelude.{◌≡◌, ◌≤◌, ◌<◌, ◌+◌, ◌^◌, IfOk, IfSome};
+ghost use Rattle.refine_board.specs.Schedules.{opened};
+ghost use Rattle.refine_board.specs.Running.{IsAsked};
+
+use crate::same::same_classes;
+use crate::{Board, Journal, Offer, Run, Step, Take, finish, replay};
+use aig_graph::{BuildFault, NetBuilder, Netlist};
+use circ_model::Lit;
+use product_machine::{PairFault, Product};
+use std::alloc::{AllocError, Global};
+use std::marker::Brand;
+use std::sync::ledger::Blank;
+use std::test::Fail;
+use verdict_stamp::{Proof, Prover, Version, greatest_classes};
+
+fn literal(number: u32) -> Lit {
+    Lit::of(number / 2, number % 2 == 1)
+}
+
+// A latch that toggles from 0, and is shown.
+fn toggle(alloc: Global) -> Result<Netlist, BuildFault> {
+    let mut net = NetBuilder::new(alloc, 1)?;
+    net.output(literal(2))?;
+    net.latch(1, literal(3), literal(0))?;
+    net.finish(alloc)
+}
+
+// No signals but the constant.
+fn nothing(alloc: Global) -> Result<Netlist, BuildFault> {
+    let net = NetBuilder::new(alloc, 0)?;
+    net.finish(alloc)
+}
+
+// A latch that keeps the input.
+fn delay(alloc: Global) -> Result<Netlist, BuildFault> {
+    let mut net = NetBuilder::new(alloc, 2)?;
+    net.output(literal(4))?;
+    net.input(1)?;
+    net.latch(2, literal(2), literal(0))?;
+    net.finish(alloc)
+}
+
+// A latch that keeps the exclusive or of the input and two other latches; one keeps the input, one is always set.
+fn late_delay(alloc: Global) -> Result<Netlist, BuildFault> {
+    let mut net = NetBuilder::new(alloc, 10)?;
+    net.output(literal(6))?;
+    net.input(1)?;
+    net.latch(2, literal(2), literal(0))?;
+    net.latch(3, literal(21), literal(0))?;
+    net.latch(4, literal(1), literal(0))?;
+    for [var, left, right] in [
+        [5, 4, 9],
+        [6, 5, 8],
+        [7, 11, 13],
+        [8, 2, 14],
+        [9, 3, 15],
+        [10, 17, 19],
+    ] {
+        net.gate(var, literal(left), literal(right))?;
+    }
+    net.finish(alloc)
+}
+
+fn netlist(alloc: Global, number: u32) -> Result<Netlist, BuildFault> {
+    match number {
+        0 => nothing(alloc),
+        1 => toggle(alloc),
+        2 => delay(alloc),
+        _ => late_delay(alloc),
+    }
+}
+
+fn pair_of(alloc: Global, left: u32, right: u32) -> Result<Product, PairFault> {
+    match (netlist(alloc, left), netlist(alloc, right)) {
+        (Ok(left), Ok(right)) => Product::new(alloc, left, right),
+        _ => Err(PairFault::Memory),
+    }
+}
+
+// An offer, and the prover of the version that stood then.
+#[derive(Drop)]
+struct Work<'p, L: Run> {
+    offer: Offer<L>,
+    prover: Prover<'p>,
+    ghost asked: { IsAsked prover offer.pair },
+}
+
+// Asks for a pair.
+fn ask<'p, L: Run>(
+    alloc: Global,
+    board: &mut Board<'p, L>,
+    party: u32,
+) -> Result<Option<Work<'p, L>>, AllocError>
+    requires party { party < L.workers + 1 }
+{
+    match board.take(party)? {
+        Take::Offer(offer) => {
+            let version = board.version().copy(alloc)?;
+            let prover = Prover::new(alloc, version)?;
+            Ok(Some(Work { offer, prover }))
+        }
+        _ => Ok(None),
+    }
+}
+
+// Proves the pair, and hands the answer in.
+fn answer<'p, L: Run>(
+    alloc: Global,
+    board: &mut Board<'p, L>,
+    work: Work<'p, L>,
+) -> Result<(), AllocError> {
+    let Work { offer, prover } = work;
+    match prover.prove(alloc, offer.pair())? {
+        Proof::Holds(verdict) => {
+            board.keep(offer, &verdict);
+        }
+        Proof::Splits(vector) => {
+            board.split(offer, vector);
+        }
+    }
+    Ok(())
+}
+
+// Asks, and keeps the work, if there is some.
+fn ask_turn<'p, L: Run>(
+    alloc: Global,
+    board: &mut Board<'p, L>,
+    works: &mut Vec<Work<'p, L>>,
+    party: u32,
+) -> Result<(), AllocError>
+    requires party { party < L.workers + 1 }
+{
+    if let Some(work) = ask(alloc, board, party)? {
+        works.push(work)?;
+    }
+    Ok(())
+}
+
+// Answers the work at an index, if there is so much.
+fn answer_turn<'p, L: Run>(
+    alloc: Global,
+    board: &mut Board<'p, L>,
+    works: &mut Vec<Work<'p, L>>,
+    at: usize,
+) -> Result<(), AllocError> {
+    if at < works.len() {
+        let work = works.remove(at);
+        answer(alloc, board, work)?;
+    }
+    Ok(())
+}
+
+// Two workers: both ask, the first answers and then the second; the first asks, then the second, and the first answers; the
+// second asks.
+fn two_turns<'p, L: Run>(
+    alloc: Global,
+    board: &mut Board<'p, L>,
+    works: &mut Vec<Work<'p, L>>,
+) -> Result<(), AllocError>
+    requires workers { 2 ≤ L.workers }
+{
+    ask_turn(alloc, board, works, 0)?;
+    ask_turn(alloc, board, works, 1)?;
+    answer_turn(alloc, board, works, 0)?;
+    answer_turn(alloc, board, works, 0)?;
+    ask_turn(alloc, board, works, 0)?;
+    ask_turn(alloc, board, works, 1)?;
+    answer_turn(alloc, board, works, 0)?;
+    ask_turn(alloc, board, works, 1)
+}
+
+fn two_workers<'p, L: Run>(
+    alloc: Global,
+    blank: Blank,
+    first: Version<'p>,
+    workers: u32,
+) -> Result<(Version<'p>, Journal), AllocError>
+    requires name { (blank.name ≡ L.name) × (blank.parts ≡ L.parts) }
+    requires parts { 2 ^ 62 ≤ L.parts }
+    requires run { (first.pair ≡ L.pair) × (first.k ≡ L.k) }
+    requires workers { (workers ≡ L.workers) × (2 ≤ L.workers) }
+    requires opening { L.opening ≡ opened L.pair L.workers first.classes first.number }
+{
+    let mut works = Vec::new(alloc);
+    let mut board = Board::<'p, L>::open(alloc, blank, first, workers)?;
+    let played = two_turns(alloc, &mut board, &mut works);
+    let end = board.close();
+    played?;
+    Ok(end)
+}
+
+fn word_of(step: &Step) -> &'static str {
+    match step {
+        Step::Offered(_) => "offered",
+        Step::Idle => "idle",
+        Step::Done => "done",
+        Step::Counted(_) => "counted",
+        Step::Stale(_) => "stale",
+        Step::Split(_, _) => "split",
+        Step::Already(_) => "already",
+        Step::Foreign => "foreign",
+        Step::Back(_) => "back",
+    }
+}
+
+// The pair of an entry, or 0 and the number of classes that a split added.
+fn numbers_of(step: &Step) -> [u32; 2] {
+    match step {
+        Step::Offered(pair) => [pair.rep, pair.member],
+        Step::Counted(pair) => [pair.rep, pair.member],
+        Step::Stale(pair) => [pair.rep, pair.member],
+        Step::Back(pair) => [pair.rep, pair.member],
+        Step::Split(_, added) => [0, *added],
+        _ => [0, 0],
+    }
+}
+
+// Whether entry i is this one.
+fn is_entry(
+    journal: &Journal,
+    i: u64,
+    worker: u32,
+    call: u64,
+    word: &str,
+    numbers: [u32; 2],
+) -> bool {
+    if i >= journal.len() {
+        return false;
+    }
+    let entry = journal.entry(i);
+    entry.worker == worker
+        && entry.call == call
+        && word_of(&entry.step) == word
+        && numbers_of(&entry.step) == numbers
+}
+
+// What two workers make of a pair, from its first version.
+fn worked<'p>(alloc: Global, product: &'p Product) -> Result<(Version<'p>, Journal), AllocError> {
+    let first = Version::first(alloc, product, 1)?;
+    two_workers::<Brand>(alloc, Blank::new(1 << 62), first, 2)
+}
+
+// Whether the workers split and count the pair of toggles.
+fn toggles_are_counted(alloc: Global, product: &Product) -> Result<bool, AllocError> {
+    let (version, journal) = worked(alloc, product)?;
+    Ok(
+        version.classes().count() == 2
+            && journal.len() == 8
+            && is_entry(&journal, 0, 0, 0, "offered", [0, 1])
+            && is_entry(&journal, 1, 1, 0, "offered", [0, 2])
+            && is_entry(&journal, 2, 0, 1, "split", [0, 1])
+            && is_entry(&journal, 3, 1, 1, "already", [0, 0])
+            && is_entry(&journal, 4, 0, 2, "offered", [1, 2])
+            && is_entry(&journal, 5, 1, 2, "idle", [0, 0])
+            && is_entry(&journal, 6, 0, 3, "counted", [1, 2])
+            && is_entry(&journal, 7, 1, 3, "done", [0, 0]),
+    )
+}
+
+#[test]
+fn two_workers_split_and_count_a_pair_of_toggles(rt: HostRuntime) -> Result<(), Fail> {
+    let alloc = rt.alloc();
+    match pair_of(alloc, 1, 1) {
+        Ok(product) => assert!(rt; toggles_are_counted(alloc, &product)?),
+        Err(_) => assert!(rt; false),
+    }
+    Ok(())
+}
+
+// Whether the second worker's proof is outdated, and its pair splits under the next version.
+fn proof_is_outdated(alloc: Global, product: &Product) -> Result<bool, AllocError> {
+    let (_, journal) = worked(alloc, product)?;
+    Ok(
+        is_entry(&journal, 0, 0, 0, "offered", [0, 1])
+            && is_entry(&journal, 1, 1, 0, "offered", [0, 2])
+            && is_entry(&journal, 2, 0, 1, "split", [0, 1])
+            && is_entry(&journal, 3, 1, 1, "stale", [0, 2])
+            && is_entry(&journal, 4, 0, 2, "offered", [0, 2])
+            && journal.len() > 6
+            && word_of(&journal.entry(6).step) == "split",
+    )
+}
+
+#[test]
+fn an_outdated_proof_is_stale_and_its_pair_splits(rt: HostRuntime) -> Result<(), Fail> {
+    let alloc = rt.alloc();
+    match pair_of(alloc, 2, 3) {
+        Ok(product) => assert!(rt; proof_is_outdated(alloc, &product)?),
+        Err(_) => assert!(rt; false),
+    }
+    Ok(())
+}
+
+// Whether each worker is told at once that all is done.
+fn is_done_at_once(alloc: Global, product: &Product) -> Result<bool, AllocError> {
+    let (version, journal) = worked(alloc, product)?;
+    Ok(version.classes().count() == 1 && is_entry(&journal, 0, 0, 0, "done", [0, 0]))
+}
+
+#[test]
+fn a_pair_with_one_signal_is_done_at_once(rt: HostRuntime) -> Result<(), Fail> {
+    let alloc = rt.alloc();
+    match pair_of(alloc, 0, 0) {
+        Ok(product) => assert!(rt; is_done_at_once(alloc, &product)?),
+        Err(_) => assert!(rt; false),
+    }
+    Ok(())
+}
+
+// A party of three without work.
+fn idle_party<L: Run>(works: &Vec<Work<'_, L>>) -> u32
+    ensures { result < 3 }
+{
+    for party in 0..2u32 {
+        if works.iter().all(|work| work.offer.party() != party) {
+            return party;
+        }
+    }
+    2
+}
+
+// Whether the replay of the journal has the board's classes.
+fn is_replayed<L: Run>(alloc: Global, board: &Board<'_, L>) -> Result<bool, AllocError> {
+    let classes = replay(alloc, board.opening(), 3, board.journal())?;
+    Ok(same_classes(&classes, board.version().classes()))
+}
+
+// A turn: a party without work asks, or one with work answers. Answers whether the replay of the journal has the board's
+// classes then.
+fn drawn_turn<'p, L: Run>(
+    alloc: Global,
+    board: &mut Board<'p, L>,
+    works: &mut Vec<Work<'p, L>>,
+    draw: usize,
+) -> Result<bool, AllocError>
+    requires workers { 3 ≤ L.workers }
+{
+    if works.len() < 3 && draw % 2 == 0 {
+        let party = idle_party(works);
+        ask_turn(alloc, board, works, party)?;
+    } else {
+        answer_turn(alloc, board, works, draw / 2 % 3)?;
+    }
+    is_replayed(alloc, board)
+}
+
+// Turns of three workers, drawn from a seed; then their offers are given back, and a fourth party works alone. Answers
+// whether at each turn the replay of the journal had the board's classes.
+fn drawn_turns<'p, L: Run>(
+    alloc: Global,
+    board: &mut Board<'p, L>,
+    works: &mut Vec<Work<'p, L>>,
+    seed: u64,
+) -> Result<bool, AllocError>
+    requires workers { 3 ≤ L.workers }
+{
+    let mut state = seed;
+    let mut same = true;
+    for _turn in 0..40u32 {
+        state = state
+            .wrapping_mul(6364136223846793005)
+            .wrapping_add(1442695040888963407);
+        if !drawn_turn(alloc, board, works, (state >> 33) as usize)? {
+            same = false;
+        }
+    }
+    for _offer in 0..3u32 {
+        if let Some(work) = works.pop() {
+            board.back(work.offer);
+        }
+    }
+    finish(board, alloc, 3)?;
+    Ok(same)
+}
+
+fn drawn_end<'p, L: Run>(
+    alloc: Global,
+    blank: Blank,
+    first: Version<'p>,
+    workers: u32,
+    seed: u64,
+) -> Result<(Version<'p>, bool), AllocError>
+    requires name { (blank.name ≡ L.name) × (blank.parts ≡ L.parts) }
+    requires parts { 2 ^ 62 ≤ L.parts }
+    requires run { (first.pair ≡ L.pair) × (first.k ≡ L.k) }
+    requires workers { (workers ≡ L.workers) × (3 ≤ L.workers) }
+    requires opening { L.opening ≡ opened L.pair L.workers first.classes first.number }
+{
+    let mut works = Vec::new(alloc);
+    let mut board = Board::<'p, L>::open(alloc, blank, first, workers)?;
+    let played = drawn_turns(alloc, &mut board, &mut works, seed);
+    let (version, _) = board.close();
+    let same = played?;
+    Ok((version, same))
+}
+
+// Whether a drawn schedule of a pair ends at its greatest classes.
+fn ends_at_greatest(alloc: Global, product: &Product, seed: u64) -> Result<bool, AllocError> {
+    let greatest = greatest_classes(alloc, product, 1)?;
+    let first = Version::first(alloc, product, 1)?;
+    let (version, same) = drawn_end::<Brand>(alloc, Blank::new(1 << 62), first, 3, seed)?;
+    Ok(same && same_classes(version.classes(), greatest.classes()))
+}
+
+// The same for four seeds.
+fn end_at_greatest(alloc: Global, product: &Product) -> Result<bool, AllocError> {
+    for seed in 0..4u64 {
+        if !ends_at_greatest(alloc, product, seed)? {
+            return Ok(false);
+        }
+    }
+    Ok(true)
+}
+
+#[test]
+fn every_drawn_schedule_ends_at_the_greatest_classes(rt: HostRuntime) -> Result<(), Fail> {
+    let alloc = rt.alloc();
+    for (left, right) in [(1, 1), (2, 3), (2, 2), (0, 0)] {
+        match pair_of(alloc, left, right) {
+            Ok(product) => assert!(rt; end_at_greatest(alloc, &product)?),
+            Err(_) => assert!(rt; false),
+        }
+    }
+    Ok(())
+}
