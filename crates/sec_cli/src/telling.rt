@@ -4,7 +4,9 @@ ghost use Rattle.sec_cli.specs.Texts.{read_failed_text, store_failed_text, fault
 ghost use Rattle.sec_cli.specs.Reports.{IsTold, name_of_side, unpaired_status, unpaired_text, refusal_status, refusal_text};
 
 use crate::ending::{Refusal, Side, Unpaired};
-use crate::texts::{write_about_file, write_cert_fault, write_differ, write_fault, write_trace_fault};
+use crate::texts::{
+    write_about_file, write_cert_fault, write_differ, write_fault, write_trace_fault,
+};
 use aiger_codec::{NetFault, NetKind};
 use corr_certificate::CertFault;
 use sec_base::{Sink, write_text};

@@ -370,6 +370,8 @@ fn words_that_are_no_command(rt: HostRuntime) -> Result<(), Fail> {
         "sec check left right --trace -k",
         "sec replay left right",
         "sec replay left right trace -k 1",
+        "sec verify left right",
+        "sec verify left right trace -k 1",
         "sec proof left right",
     ] {
         assert!(rt; answers_so(alloc, &case(words, TOGGLE, TOGGLE, 3, "", usage))?);
@@ -613,5 +615,68 @@ fn sure_devices_are_answered(rt: HostRuntime) -> Result<(), Fail> {
         let words = words_of(alloc, "sec check left left")?;
         assert!(rt; run_over_sure_devices(alloc, &words, &mut shelf).status == 0);
     }
+    Ok(())
+}
+
+// The certificate of two toggling latches, line by line.
+const CERT: &str =
+    "seccert 1 k=1 signals=3\nclass l1 r1\nbase r1\n0 6 2 3 4 0\nstep r1\n-2 0 3 8 5 11 9 0\n0 12 4 7 6 11 10 0\nend\n";
+
+// What reading this text as a certificate of two toggling latches answers.
+fn certified(cert: &'static str, status: u8, out: &'static str, err: &'static str) -> Row {
+    Row {
+        trace: cert,
+        ..case(
+            "sec verify left right trace",
+            TOGGLE,
+            TOGGLE,
+            status,
+            out,
+            err,
+        )
+    }
+}
+
+#[test]
+fn certificates_are_verified(rt: HostRuntime) -> Result<(), Fail> {
+    let alloc = rt.alloc();
+    assert!(rt; answers_so(alloc, &certified(CERT, 0, "verified\n", ""))?);
+    for (cert, err) in [
+        (
+            "seccert 1 k=1 signals=3\nclass l1 r1\nbase r1\n0 6 2 3 4 0\nstep r1\n0 12 4 7 6 11 10 0\nend\n",
+            "sec: trace: derivation at line 6\n",
+        ),
+        (
+            "seccert 1 k=1 signals=3\nclass l1 r1\nbase r1\n0 6 2 3 4 0\nstep r1\n",
+            "sec: trace: truncated at line 6\n",
+        ),
+        (
+            "seccert 1 k=1 signals=3\nbase r1\n0 6 2 3 4 0\nstep r1\n-2 0 3 8 5 11 9 0\n0 12 4 7 6 11 10 0\nend\n",
+            "sec: trace: outputs at line 1\n",
+        ),
+        (
+            "seccert 1 k=1 signals=3\nclass l1 r1\nbase l1\n0 6 2 3 4 0\n",
+            "sec: trace: order at line 3\n",
+        ),
+        (
+            "seccert 1 k=1 signals=3\nclass r1 l1\nbase r1\n",
+            "sec: trace: class at line 2\n",
+        ),
+        (
+            "seccert 1 k=1 signals=4\n",
+            "sec: trace: signals at line 1\n",
+        ),
+        (
+            "seccert 1 k=17 signals=3\n",
+            "sec: trace: limit at line 1\n",
+        ),
+        ("seccert 2\n", "sec: trace: line at line 1\n"),
+        ("", "sec: trace: truncated at line 1\n"),
+    ] {
+        assert!(rt; answers_so(alloc, &certified(cert, 4, "", err))?);
+    }
+    let none = "sec verify left right none";
+    let unread = case(none, TOGGLE, TOGGLE, 5, "", "sec: none: read failed\n");
+    assert!(rt; answers_so(alloc, &unread)?);
     Ok(())
 }
