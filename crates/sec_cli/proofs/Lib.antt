@@ -6,3 +6,4 @@ pub mod Verdicts
 pub mod Pairing
 pub mod Linking
 pub mod Trying
+pub mod Unfailing
