@@ -4,5 +4,4 @@ pub mod Concluding
 pub mod LeftOut
 pub mod Verdicts
 pub mod Pairing
-pub mod Linking
 pub mod Trying
