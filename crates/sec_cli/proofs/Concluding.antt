@@ -9,7 +9,7 @@ use Rattle.sec_cli.specs.declared.ending.Refusal.{Refusal}
 use Rattle.sec_cli.specs.declared.ending.Refusal.TheVariants as refusals
 use Rattle.sec_cli.specs.declared.words.Command.{Command}
 use Rattle.sec_cli.specs.declared.words.Command.TheVariants as commands
-use Rattle.sec_cli.specs.Endings.{Ending, IsLoadFailed, IsLoadEnding, failed_side, failed_names, left_name, right_name, trace_name}
+use Rattle.sec_cli.specs.Endings.{Ending, IsLoadFailed, IsLoadEnding, failed_side, failed_names, left_name, right_name, third_name}
 use Rattle.sec_cli.specs.Texts.{memory_text}
 use Rattle.sec_cli.specs.Reports.{World, IsReport, IsStored, IsToldIn, unpaired_status, unpaired_text, refusal_status, refusal_text, store_place, name_at}
 use Rattle.sec_cli.specs.Runs.{Ended, IsAnswered, IsRefused, IsUnread, IsUnwritten}
@@ -25,9 +25,10 @@ unpaired_high (unpaired.OutputsDiffer a b) = (omega arith, omega arith, omega ar
 refusal_high : (r : Refusal) → (4 ≤ refusal_status r) × (refusal_status r ≢ 6) × (refusal_status r ≤ 7)
 refusal_high refusals.Memory = (omega arith, omega arith, omega arith)
 refusal_high (refusals.Unpaired u) = unpaired_high u
-refusal_high refusals.TraceFailed = (omega arith, omega arith, omega arith)
-refusal_high refusals.TraceTooLong = (omega arith, omega arith, omega arith)
+refusal_high refusals.ThirdFailed = (omega arith, omega arith, omega arith)
+refusal_high refusals.ThirdTooLong = (omega arith, omega arith, omega arith)
 refusal_high (refusals.TraceRefused f) = (omega arith, omega arith, omega arith)
+refusal_high (refusals.CertRefused f) = (omega arith, omega arith, omega arith)
 
 -- 7 tells want of memory
 unpaired_memory : (left right : List ℕ) (u : Unpaired) → unpaired_status u ≡ 7 → unpaired_text left right u ≡ memory_text
@@ -40,9 +41,10 @@ unpaired_memory left right (unpaired.OutputsDiffer a b) e = absurd (omega arith)
 refusal_memory : (left right trace : List ℕ) (r : Refusal) → refusal_status r ≡ 7 → refusal_text left right trace r ≡ memory_text
 refusal_memory left right trace refusals.Memory e = refl
 refusal_memory left right trace (refusals.Unpaired u) e = unpaired_memory left right u e
-refusal_memory left right trace refusals.TraceFailed e = absurd (omega arith)
-refusal_memory left right trace refusals.TraceTooLong e = absurd (omega arith)
+refusal_memory left right trace refusals.ThirdFailed e = absurd (omega arith)
+refusal_memory left right trace refusals.ThirdTooLong e = absurd (omega arith)
 refusal_memory left right trace (refusals.TraceRefused f) e = absurd (omega arith)
+refusal_memory left right trace (refusals.CertRefused f) e = absurd (omega arith)
 
 -- 5 is a load that failed, and no other status is
 unpaired_load : (u : Unpaired) → unpaired_status u ≡ 5 → IsLoadFailed u
@@ -55,9 +57,10 @@ unpaired_load (unpaired.OutputsDiffer a b) e = omega arith
 refusal_load : (r : Refusal) → refusal_status r ≡ 5 → IsLoadEnding (Err r)
 refusal_load refusals.Memory e = omega arith
 refusal_load (refusals.Unpaired u) e = unpaired_load u e
-refusal_load refusals.TraceFailed e = tt
-refusal_load refusals.TraceTooLong e = omega arith
+refusal_load refusals.ThirdFailed e = tt
+refusal_load refusals.ThirdTooLong e = omega arith
 refusal_load (refusals.TraceRefused f) e = omega arith
+refusal_load (refusals.CertRefused f) e = omega arith
 
 no_side : (left right : List ℕ) (u : Unpaired) → (unpaired_status u ≢ 5) → failed_side left right u ≡ []
 no_side left right unpaired.Memory h = refl
@@ -69,13 +72,15 @@ no_side left right (unpaired.OutputsDiffer a b) h = refl
 no_name : (left right trace : List ℕ) (r : Refusal) → (refusal_status r ≢ 5) → failed_names left right trace (Err r) ≡ []
 no_name left right trace refusals.Memory h = refl
 no_name left right trace (refusals.Unpaired u) h = no_side left right u h
-no_name left right trace refusals.TraceFailed h = absurd (h refl)
-no_name left right trace refusals.TraceTooLong h = refl
+no_name left right trace refusals.ThirdFailed h = absurd (h refl)
+no_name left right trace refusals.ThirdTooLong h = refl
 no_name left right trace (refusals.TraceRefused f) h = refl
+no_name left right trace (refusals.CertRefused f) h = refl
 
 -- only a difference is stored
 no_place : (c : Command) (status : ℕ) → status ≢ 1 → store_place c status ≡ None
 no_place (commands.Replay c) status h = refl
+no_place (commands.Verify c) status h = refl
 no_place (commands.Demo d) status h = refl
 no_place (commands.Check c) status h = let e = ne_eqb status 1 h in rw e refl
 
@@ -101,7 +106,7 @@ refused tells words c (Ok a) before after status low ended (inr (inr (seven, p))
 refused tells words c (Err r) before after status low ended (is, p) four = record { refusal = r; ended = ended; status_is = sym is ∙ four; told = p.told }
 
 pub unread : (tells : Bool) (words : List (List ℕ)) (c : Command) (e : Ending) (names names_after : Option (List (List ℕ))) (before after : World) (status : ℕ) → IfOk e (λ a. a.status ≤ 2) → Ended tells before.files words c e
-    → names_after ≡ appended names (failed_names (left_name words c) (right_name words c) (trace_name words c) e) → IsReport tells words c e before after status → status ≡ 5
+    → names_after ≡ appended names (failed_names (left_name words c) (right_name words c) (third_name words c) e) → IsReport tells words c e before after status → status ≡ 5
     → IsUnread tells words c names names_after before after
 unread tells words c (Ok a) names names_after before after status low ended named (inl (is, p)) five = absurd (omega (arith, is, low, five))
 unread tells words c (Ok a) names names_after before after status low ended named (inr (inl (six, p))) five = absurd (omega (arith, six, five))
@@ -125,7 +130,7 @@ pub told_memory : (tells : Bool) (words : List (List ℕ)) (c : Command) (e : En
 told_memory tells words c (Ok a) before after status low (inl (is, p)) seven = absurd (omega (arith, is, low, seven))
 told_memory tells words c (Ok a) before after status low (inr (inl (six, p))) seven = absurd (omega (arith, six, seven))
 told_memory tells words c (Ok a) before after status low (inr (inr (is, p))) seven = p.told
-told_memory tells words c (Err r) before after status low (is, p) seven = subst (IsToldIn before after) (refusal_memory (left_name words c) (right_name words c) (trace_name words c) r (sym is ∙ seven)) p.told
+told_memory tells words c (Err r) before after status low (is, p) seven = subst (IsToldIn before after) (refusal_memory (left_name words c) (right_name words c) (third_name words c) r (sym is ∙ seven)) p.told
 
 pub out_stays : (tells : Bool) (words : List (List ℕ)) (c : Command) (e : Ending) (before after : World) (status : ℕ) → IfOk e (λ a. a.status ≤ 2) → IsReport tells words c e before after status → 3 ≤ status → status ≢ 6 → after.out ≡ before.out
 out_stays tells words c (Ok a) before after status low (inl (is, p)) high h = absurd (omega (arith, is, low, high))
@@ -134,10 +139,10 @@ out_stays tells words c (Ok a) before after status low (inr (inr (is, p))) high 
 out_stays tells words c (Err r) before after status low (is, p) high h = p.kept
 
 pub names_stay : (tells : Bool) (words : List (List ℕ)) (c : Command) (e : Ending) (names names_after : Option (List (List ℕ))) (before after : World) (status : ℕ)
-    → names_after ≡ appended names (failed_names (left_name words c) (right_name words c) (trace_name words c) e) → IsReport tells words c e before after status → status ≢ 5 → names_after ≡ names
+    → names_after ≡ appended names (failed_names (left_name words c) (right_name words c) (third_name words c) e) → IsReport tells words c e before after status → status ≢ 5 → names_after ≡ names
 names_stay tells words c (Ok a) names names_after before after status named p h = named ∙ appended_none names
 names_stay tells words c (Err r) names names_after before after status named (is, p) h =
-    named ∙ ap (appended names) (no_name (left_name words c) (right_name words c) (trace_name words c) r (λ five. h (is ∙ five))) ∙ appended_none names
+    named ∙ ap (appended names) (no_name (left_name words c) (right_name words c) (third_name words c) r (λ five. h (is ∙ five))) ∙ appended_none names
 
 pub files_stay : (tells : Bool) (words : List (List ℕ)) (c : Command) (e : Ending) (before after : World) (status : ℕ) → IsReport tells words c e before after status → status ≢ 1 → status ≢ 6 → after.files ≡ before.files
 files_stay tells words c (Ok a) before after status (inl (is, p)) one six =

@@ -2,12 +2,13 @@
 use Rattle.std.specs.Prelude.{◌≡◌, ℕ, ◌+◌, false, List, [], ◌++◌, length, Option, Some, None, Ok, MatchBool}
 use Rattle.circ_model.specs.Meaning.{Pair, Path, IsRun, places_of}
 use Rattle.circ_model.specs.Verdict.{Verdict, Equivalent, Different, Undecided, IsVerdict, IsFirstDifference, FirstDifference}
+use Rattle.corr_certificate.specs.Certificate.{IsSupported}
 use Rattle.class_partition.specs.Classes.{Classes, ArePartition, AreOfGreatest}
 use Rattle.trace_witness.specs.Lines.{lines_of}
 use Rattle.trace_witness.specs.Texts.{trace_text, trace_of}
 use Rattle.trace_witness.specs.declared.read.Trace.{Trace}
 use Rattle.class_text.specs.ClassLines.{class_lines}
-use Rattle.sec_cli.specs.Texts.{equivalent_line, undecided_line, different_line, differs_line, agrees_line, demo_line}
+use Rattle.sec_cli.specs.Texts.{equivalent_line, undecided_line, different_line, differs_line, agrees_line, verified_line, demo_line}
 use Rattle.sec_cli.specs.declared.ending.Answer.{Answer}
 use Rattle.sec_cli.specs.declared.words.Check.{Check}
 use Rattle.sec_cli.specs.declared.words.Demo.{Demo}
@@ -54,6 +55,10 @@ IsReplayOf pair run answer = (first : Option (ℕ × ℕ)) × FirstDifference pa
 
 abbrev pub IsReplayAnswer : Pair → List ℕ → Answer → Type 0
 IsReplayAnswer pair bytes answer = (trace : Trace) × (trace_of pair (lines_of bytes) ≡ Ok trace) × IsReplayOf pair trace.run answer
+
+-- what a certificate without a fault shows
+abbrev pub IsVerifyAnswer : Pair → List ℕ → Answer → Type 0
+IsVerifyAnswer pair bytes answer = IsSupported pair bytes × (answer.status ≡ 0) × (answer.text.items ≡ verified_line)
 
 -- a demo is checked as two files are, without class lines and stored traces
 abbrev pub check_of_demo : Demo → Check

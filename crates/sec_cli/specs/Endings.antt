@@ -6,9 +6,11 @@ use Rattle.aiger_codec.specs.Lines.{fault}
 use Rattle.aiger_codec.specs.declared.fault.NetFault.{NetFault}
 use Rattle.aiger_codec.specs.declared.fault.NetKind.TheVariants as kinds
 use Rattle.aiger_file.specs.Files.{IsNetlistFile, IsFirstFault}
+use Rattle.corr_certificate.specs.Certificate.{IsChecked}
+use Rattle.corr_certificate.specs.declared.fault.Checked.TheVariants.{No}
 use Rattle.trace_witness.specs.Lines.{lines_of}
 use Rattle.trace_witness.specs.Texts.{trace_of}
-use Rattle.sec_cli.specs.Answers.{IsCheckAnswer, IsReplayAnswer, IsDemoAnswer}
+use Rattle.sec_cli.specs.Answers.{IsCheckAnswer, IsReplayAnswer, IsVerifyAnswer, IsDemoAnswer}
 use Rattle.sec_cli.specs.Words.{word_at}
 use Rattle.sec_cli.specs.declared.words.Check.{Check}
 use Rattle.sec_cli.specs.declared.words.Demo.{Demo}
@@ -28,12 +30,12 @@ use Rattle.sec_cli.specs.declared.ending.Unread.TheVariants as unread
 abbrev pub Ending : Type 0
 Ending = Result Answer Refusal
 
--- no netlist's file is longer, and no trace's
+-- no netlist's file is longer, and no trace's or certificate's
 abbrev pub longest_netlist : ℕ
 longest_netlist = 67108864
 
-abbrev pub longest_trace : ℕ
-longest_trace = 1099511627776
+abbrev pub longest_third : ℕ
+longest_third = 1099511627776
 
 -- a file that is there, within the limit, and accepted as this netlist
 abbrev pub IsAccepted : Option (List ℕ) → Netlist → Type 0
@@ -85,49 +87,66 @@ IsNoPair left right (unpaired.OutputsDiffer a b) = (pair : Pair) × AreAccepted 
 abbrev pub left_name : List (List ℕ) → Command → List ℕ
 left_name words (commands.Check c) = word_at words c.left
 left_name words (commands.Replay c) = word_at words c.left
+left_name words (commands.Verify c) = word_at words c.left
 left_name words (commands.Demo d) = []
 
 abbrev pub right_name : List (List ℕ) → Command → List ℕ
 right_name words (commands.Check c) = word_at words c.right
 right_name words (commands.Replay c) = word_at words c.right
+right_name words (commands.Verify c) = word_at words c.right
 right_name words (commands.Demo d) = []
 
-abbrev pub trace_name : List (List ℕ) → Command → List ℕ
-trace_name words (commands.Check c) = []
-trace_name words (commands.Replay c) = word_at words c.trace
-trace_name words (commands.Demo d) = []
+abbrev pub third_name : List (List ℕ) → Command → List ℕ
+third_name words (commands.Check c) = []
+third_name words (commands.Replay c) = word_at words c.trace
+third_name words (commands.Verify c) = word_at words c.cert
+third_name words (commands.Demo d) = []
 
 -- how the check of two files ends
 abbrev pub IsCheckEnding : Option (List ℕ) → Option (List ℕ) → Check → Ending → Type 0
 IsCheckEnding left right c (Err refusals.Memory) = Unit {0}
 IsCheckEnding left right c (Err (refusals.Unpaired u)) = IsNoPair left right u
 IsCheckEnding left right c (Ok a) = (pair : Pair) × ArePair left right pair × IsCheckAnswer pair c a
-IsCheckEnding left right c (Err refusals.TraceFailed) = ⊥
-IsCheckEnding left right c (Err refusals.TraceTooLong) = ⊥
+IsCheckEnding left right c (Err refusals.ThirdFailed) = ⊥
+IsCheckEnding left right c (Err refusals.ThirdTooLong) = ⊥
 IsCheckEnding left right c (Err (refusals.TraceRefused f)) = ⊥
+IsCheckEnding left right c (Err (refusals.CertRefused f)) = ⊥
 
 -- and how the replay of a third file on them ends
 abbrev pub IsReplayEnding : Option (List ℕ) → Option (List ℕ) → Option (List ℕ) → Ending → Type 0
 IsReplayEnding left right trace (Err refusals.Memory) = Unit {0}
 IsReplayEnding left right trace (Err (refusals.Unpaired u)) = IsNoPair left right u
-IsReplayEnding left right trace (Err refusals.TraceFailed) = (pair : Pair) × ArePair left right pair
-IsReplayEnding left right trace (Err refusals.TraceTooLong) = (pair : Pair) × ArePair left right pair × IsSomeAnd trace (λ bytes. longest_trace < length bytes)
-IsReplayEnding left right trace (Err (refusals.TraceRefused f)) = (pair : Pair) × ArePair left right pair × IsSomeAnd trace (λ bytes. (length bytes ≤ longest_trace) × (trace_of pair (lines_of bytes) ≡ Err f))
-IsReplayEnding left right trace (Ok a) = (pair : Pair) × ArePair left right pair × IsSomeAnd trace (λ bytes. (length bytes ≤ longest_trace) × IsReplayAnswer pair bytes a)
+IsReplayEnding left right trace (Err refusals.ThirdFailed) = (pair : Pair) × ArePair left right pair
+IsReplayEnding left right trace (Err refusals.ThirdTooLong) = (pair : Pair) × ArePair left right pair × IsSomeAnd trace (λ bytes. longest_third < length bytes)
+IsReplayEnding left right trace (Err (refusals.TraceRefused f)) = (pair : Pair) × ArePair left right pair × IsSomeAnd trace (λ bytes. (length bytes ≤ longest_third) × (trace_of pair (lines_of bytes) ≡ Err f))
+IsReplayEnding left right trace (Err (refusals.CertRefused f)) = ⊥
+IsReplayEnding left right trace (Ok a) = (pair : Pair) × ArePair left right pair × IsSomeAnd trace (λ bytes. (length bytes ≤ longest_third) × IsReplayAnswer pair bytes a)
+
+-- and how the reading of a certificate for them ends
+abbrev pub IsVerifyEnding : Option (List ℕ) → Option (List ℕ) → Option (List ℕ) → Ending → Type 0
+IsVerifyEnding left right cert (Err refusals.Memory) = Unit {0}
+IsVerifyEnding left right cert (Err (refusals.Unpaired u)) = IsNoPair left right u
+IsVerifyEnding left right cert (Err refusals.ThirdFailed) = (pair : Pair) × ArePair left right pair
+IsVerifyEnding left right cert (Err refusals.ThirdTooLong) = (pair : Pair) × ArePair left right pair × IsSomeAnd cert (λ bytes. longest_third < length bytes)
+IsVerifyEnding left right cert (Err (refusals.TraceRefused f)) = ⊥
+IsVerifyEnding left right cert (Err (refusals.CertRefused f)) = (pair : Pair) × ArePair left right pair × IsSomeAnd cert (λ bytes. (length bytes ≤ longest_third) × IsChecked pair bytes (No f))
+IsVerifyEnding left right cert (Ok a) = (pair : Pair) × ArePair left right pair × IsSomeAnd cert (λ bytes. (length bytes ≤ longest_third) × IsVerifyAnswer pair bytes a)
 
 -- a demo has no files: it answers, but for want of memory
 abbrev pub IsDemoEnding : Demo → Ending → Type 0
 IsDemoEnding d (Err refusals.Memory) = Unit {0}
 IsDemoEnding d (Ok a) = IsDemoAnswer d a
 IsDemoEnding d (Err (refusals.Unpaired u)) = ⊥
-IsDemoEnding d (Err refusals.TraceFailed) = ⊥
-IsDemoEnding d (Err refusals.TraceTooLong) = ⊥
+IsDemoEnding d (Err refusals.ThirdFailed) = ⊥
+IsDemoEnding d (Err refusals.ThirdTooLong) = ⊥
 IsDemoEnding d (Err (refusals.TraceRefused f)) = ⊥
+IsDemoEnding d (Err (refusals.CertRefused f)) = ⊥
 
 -- how a run of these words, which are this command, ends over these files
 abbrev pub IsEnding : (List ℕ → Option (List ℕ)) → List (List ℕ) → Command → Ending → Type 0
 IsEnding file words (commands.Check c) e = IsCheckEnding (file (word_at words c.left)) (file (word_at words c.right)) c e
 IsEnding file words (commands.Replay c) e = IsReplayEnding (file (word_at words c.left)) (file (word_at words c.right)) (file (word_at words c.trace)) e
+IsEnding file words (commands.Verify c) e = IsVerifyEnding (file (word_at words c.left)) (file (word_at words c.right)) (file (word_at words c.cert)) e
 IsEnding file words (commands.Demo d) e = IsDemoEnding d e
 
 abbrev pub unread_as : Side → Unread → Unpaired
@@ -164,19 +183,21 @@ failed_loads left right (Err u) = failed_side left right u
 
 abbrev pub failed_names : List ℕ → List ℕ → List ℕ → Ending → List (List ℕ)
 failed_names left right trace (Err (refusals.Unpaired u)) = failed_side left right u
-failed_names left right trace (Err refusals.TraceFailed) = trace ∷ []
+failed_names left right trace (Err refusals.ThirdFailed) = trace ∷ []
 failed_names left right trace (Err refusals.Memory) = []
-failed_names left right trace (Err refusals.TraceTooLong) = []
+failed_names left right trace (Err refusals.ThirdTooLong) = []
 failed_names left right trace (Err (refusals.TraceRefused f)) = []
+failed_names left right trace (Err (refusals.CertRefused f)) = []
 failed_names left right trace (Ok a) = []
 
 -- a load failed
 abbrev pub IsLoadEnding : Ending → Type 0
 IsLoadEnding (Err (refusals.Unpaired u)) = IsLoadFailed u
-IsLoadEnding (Err refusals.TraceFailed) = Unit {0}
+IsLoadEnding (Err refusals.ThirdFailed) = Unit {0}
 IsLoadEnding (Err refusals.Memory) = ⊥
-IsLoadEnding (Err refusals.TraceTooLong) = ⊥
+IsLoadEnding (Err refusals.ThirdTooLong) = ⊥
 IsLoadEnding (Err (refusals.TraceRefused f)) = ⊥
+IsLoadEnding (Err (refusals.CertRefused f)) = ⊥
 IsLoadEnding (Ok a) = ⊥
 
 -- how the replay of a trace's file on a pair ends
@@ -185,30 +206,53 @@ IsReplayedAs pair bytes (Err refusals.Memory) = Unit {0}
 IsReplayedAs pair bytes (Err (refusals.TraceRefused f)) = trace_of pair (lines_of bytes) ≡ Err f
 IsReplayedAs pair bytes (Ok a) = IsReplayAnswer pair bytes a
 IsReplayedAs pair bytes (Err (refusals.Unpaired u)) = ⊥
-IsReplayedAs pair bytes (Err refusals.TraceFailed) = ⊥
-IsReplayedAs pair bytes (Err refusals.TraceTooLong) = ⊥
+IsReplayedAs pair bytes (Err refusals.ThirdFailed) = ⊥
+IsReplayedAs pair bytes (Err refusals.ThirdTooLong) = ⊥
+IsReplayedAs pair bytes (Err (refusals.CertRefused f)) = ⊥
 
 abbrev pub IsReplayed : Pair → Option (List ℕ) → Ending → Type 0
 IsReplayed pair file (Err refusals.Memory) = Unit {0}
-IsReplayed pair file (Err refusals.TraceFailed) = Unit {0}
-IsReplayed pair file (Err refusals.TraceTooLong) = IsSomeAnd file (λ bytes. longest_trace < length bytes)
-IsReplayed pair file (Err (refusals.TraceRefused f)) = IsSomeAnd file (λ bytes. (length bytes ≤ longest_trace) × (trace_of pair (lines_of bytes) ≡ Err f))
-IsReplayed pair file (Ok a) = IsSomeAnd file (λ bytes. (length bytes ≤ longest_trace) × IsReplayAnswer pair bytes a)
+IsReplayed pair file (Err refusals.ThirdFailed) = Unit {0}
+IsReplayed pair file (Err refusals.ThirdTooLong) = IsSomeAnd file (λ bytes. longest_third < length bytes)
+IsReplayed pair file (Err (refusals.TraceRefused f)) = IsSomeAnd file (λ bytes. (length bytes ≤ longest_third) × (trace_of pair (lines_of bytes) ≡ Err f))
+IsReplayed pair file (Ok a) = IsSomeAnd file (λ bytes. (length bytes ≤ longest_third) × IsReplayAnswer pair bytes a)
+IsReplayed pair file (Err (refusals.CertRefused f)) = ⊥
 IsReplayed pair file (Err (refusals.Unpaired u)) = ⊥
+
+-- and how the reading of a certificate's file for it ends
+abbrev pub IsVerifiedAs : Pair → List ℕ → Ending → Type 0
+IsVerifiedAs pair bytes (Err refusals.Memory) = Unit {0}
+IsVerifiedAs pair bytes (Err (refusals.CertRefused f)) = IsChecked pair bytes (No f)
+IsVerifiedAs pair bytes (Ok a) = IsVerifyAnswer pair bytes a
+IsVerifiedAs pair bytes (Err (refusals.Unpaired u)) = ⊥
+IsVerifiedAs pair bytes (Err refusals.ThirdFailed) = ⊥
+IsVerifiedAs pair bytes (Err refusals.ThirdTooLong) = ⊥
+IsVerifiedAs pair bytes (Err (refusals.TraceRefused f)) = ⊥
+
+abbrev pub IsVerified : Pair → Option (List ℕ) → Ending → Type 0
+IsVerified pair file (Err refusals.Memory) = Unit {0}
+IsVerified pair file (Err refusals.ThirdFailed) = Unit {0}
+IsVerified pair file (Err refusals.ThirdTooLong) = IsSomeAnd file (λ bytes. longest_third < length bytes)
+IsVerified pair file (Err (refusals.CertRefused f)) = IsSomeAnd file (λ bytes. (length bytes ≤ longest_third) × IsChecked pair bytes (No f))
+IsVerified pair file (Ok a) = IsSomeAnd file (λ bytes. (length bytes ≤ longest_third) × IsVerifyAnswer pair bytes a)
+IsVerified pair file (Err (refusals.TraceRefused f)) = ⊥
+IsVerified pair file (Err (refusals.Unpaired u)) = ⊥
 
 -- the ending isn't that there is no pair
 abbrev pub IsOfPair : Ending → Type 0
 IsOfPair (Err (refusals.Unpaired u)) = ⊥
 IsOfPair (Err refusals.Memory) = Unit {0}
-IsOfPair (Err refusals.TraceFailed) = Unit {0}
-IsOfPair (Err refusals.TraceTooLong) = Unit {0}
+IsOfPair (Err refusals.ThirdFailed) = Unit {0}
+IsOfPair (Err refusals.ThirdTooLong) = Unit {0}
 IsOfPair (Err (refusals.TraceRefused f)) = Unit {0}
+IsOfPair (Err (refusals.CertRefused f)) = Unit {0}
 IsOfPair (Ok a) = Unit {0}
 
-abbrev pub failed_trace : List ℕ → Ending → List (List ℕ)
-failed_trace trace (Err refusals.TraceFailed) = trace ∷ []
-failed_trace trace (Err (refusals.Unpaired u)) = []
-failed_trace trace (Err refusals.Memory) = []
-failed_trace trace (Err refusals.TraceTooLong) = []
-failed_trace trace (Err (refusals.TraceRefused f)) = []
-failed_trace trace (Ok a) = []
+abbrev pub failed_third : List ℕ → Ending → List (List ℕ)
+failed_third trace (Err refusals.ThirdFailed) = trace ∷ []
+failed_third trace (Err (refusals.Unpaired u)) = []
+failed_third trace (Err refusals.Memory) = []
+failed_third trace (Err refusals.ThirdTooLong) = []
+failed_third trace (Err (refusals.TraceRefused f)) = []
+failed_third trace (Err (refusals.CertRefused f)) = []
+failed_third trace (Ok a) = []

@@ -13,8 +13,8 @@ use Rattle.sec_cli.specs.declared.ending.Unpaired.TheVariants as unpaired
 use Rattle.sec_cli.specs.declared.words.Command.{Command}
 use Rattle.sec_cli.specs.declared.words.Command.TheVariants as commands
 use Rattle.sec_cli.specs.Words.{word_at}
-use Rattle.sec_cli.specs.Endings.{Ending, longest_trace, left_name, right_name, trace_name}
-use Rattle.sec_cli.specs.Texts.{fault_text, trace_fault_text, differ_text, read_failed_text, store_failed_text, write_failed_text, memory_text}
+use Rattle.sec_cli.specs.Endings.{Ending, longest_third, left_name, right_name, third_name}
+use Rattle.sec_cli.specs.Texts.{fault_text, trace_fault_text, cert_fault_text, differ_text, read_failed_text, store_failed_text, write_failed_text, memory_text}
 
 abbrev pub name_of_side : List ℕ → List ℕ → Side → List ℕ
 name_of_side left right Left = left
@@ -39,19 +39,21 @@ unpaired_text left right (unpaired.OutputsDiffer a b) = differ_text (codes "outp
 abbrev pub refusal_status : Refusal → ℕ
 refusal_status refusals.Memory = 7
 refusal_status (refusals.Unpaired u) = unpaired_status u
-refusal_status refusals.TraceFailed = 5
-refusal_status refusals.TraceTooLong = 4
+refusal_status refusals.ThirdFailed = 5
+refusal_status refusals.ThirdTooLong = 4
 refusal_status (refusals.TraceRefused f) = 4
+refusal_status (refusals.CertRefused f) = 4
 
 abbrev pub refusal_text : List ℕ → List ℕ → List ℕ → Refusal → List ℕ
 refusal_text left right trace refusals.Memory = memory_text
 refusal_text left right trace (refusals.Unpaired u) = unpaired_text left right u
-refusal_text left right trace refusals.TraceFailed = read_failed_text trace
-refusal_text left right trace refusals.TraceTooLong = fault_text trace (fault kinds.Limit longest_trace)
+refusal_text left right trace refusals.ThirdFailed = read_failed_text trace
+refusal_text left right trace refusals.ThirdTooLong = fault_text trace (fault kinds.Limit longest_third)
 refusal_text left right trace (refusals.TraceRefused f) = trace_fault_text trace f
+refusal_text left right trace (refusals.CertRefused f) = cert_fault_text trace f
 
 abbrev pub told_of : List (List ℕ) → Command → Refusal → List ℕ
-told_of words c r = refusal_text (left_name words c) (right_name words c) (trace_name words c) r
+told_of words c r = refusal_text (left_name words c) (right_name words c) (third_name words c) r
 
 -- the sink took the text, or failed and took a part from its front
 abbrev pub IsTold : Option (List ℕ) → ℕ → List ℕ → Option (List ℕ) → ℕ → Type 0
@@ -61,6 +63,7 @@ IsTold before faults text after now = (after ≡ appended before text) ⊎ (Rose
 abbrev pub store_place : Command → ℕ → Option ℕ
 store_place (commands.Check c) status = if status == 1 then c.trace else None
 store_place (commands.Replay c) status = None
+store_place (commands.Verify c) status = None
 store_place (commands.Demo d) status = None
 
 -- all files but this one stay

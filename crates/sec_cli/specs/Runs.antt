@@ -4,7 +4,7 @@ use Rattle.sec_base.specs.Faults.{appended}
 use Rattle.sec_cli.specs.declared.ending.Answer.{Answer}
 use Rattle.sec_cli.specs.declared.ending.Refusal.{Refusal}
 use Rattle.sec_cli.specs.declared.words.Command.{Command}
-use Rattle.sec_cli.specs.Endings.{Ending, IsEnding, left_name, right_name, trace_name, failed_names}
+use Rattle.sec_cli.specs.Endings.{Ending, IsEnding, left_name, right_name, third_name, failed_names}
 use Rattle.sec_cli.specs.Reports.{World, IsTold, IsStored, IsUnprinted, IsUnstoredAs, store_place, name_at, refusal_status, told_of}
 
 -- how the command ended, where the shelf tells its files
@@ -35,7 +35,7 @@ pub record IsUnread (tells : Bool) (words : List (List ℕ)) (c : Command) (name
   pub refusal : Refusal
   pub ended : Ended tells before.files words c (Err refusal)
   pub status_is : refusal_status refusal ≡ 5
-  pub name : names_after ≡ appended names (failed_names (left_name words c) (right_name words c) (trace_name words c) (Err refusal))
+  pub name : names_after ≡ appended names (failed_names (left_name words c) (right_name words c) (third_name words c) (Err refusal))
   pub told : IsTold before.err before.err_faults (told_of words c refusal) after.err after.err_faults
 
 -- the answer of the command could not be stored, or not be printed

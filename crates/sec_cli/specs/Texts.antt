@@ -3,6 +3,9 @@ use Rattle.std.specs.Prelude.{ℕ, ◌*◌, List, [], ◌∷◌, ◌++◌, codes
 use Rattle.std.specs.List.{flat_map}
 use Rattle.aiger_codec.specs.declared.fault.NetFault.{NetFault}
 use Rattle.aiger_codec.specs.Names.{name_of}
+use Rattle.corr_certificate.specs.declared.fault.CertFault.{CertFault}
+use Rattle.corr_certificate.specs.declared.fault.CertKind.{CertKind}
+use Rattle.corr_certificate.specs.declared.fault.CertKind.TheVariants as cert_kinds
 use Rattle.trace_witness.specs.declared.fault.TraceFault.{TraceFault}
 use Rattle.trace_witness.specs.Names.{name_of as name_of_trace_kind}
 
@@ -29,6 +32,9 @@ differs_line frame output = codes "differs frame=" ++ (decimal frame ++ (codes "
 abbrev pub agrees_line : ℕ → List ℕ
 agrees_line frames = codes "agrees frames=" ++ (decimal frames ++ codes "\n")
 
+abbrev pub verified_line : List ℕ
+verified_line = codes "verified\n"
+
 -- what a demo has: n inputs, latches and outputs, and six times as many gates
 abbrev pub demo_line : ℕ → List ℕ
 demo_line n =
@@ -44,6 +50,20 @@ fault_text name fault = about name ++ ((name_of fault.kind ++ codes " at byte ")
 
 abbrev pub trace_fault_text : List ℕ → TraceFault → List ℕ
 trace_fault_text name fault = about name ++ ((name_of_trace_kind fault.kind ++ codes " at line ") ++ (decimal fault.line ++ codes "\n"))
+
+-- the names of the kinds of faults of certificates
+abbrev pub name_of_cert_kind : CertKind → List ℕ
+name_of_cert_kind cert_kinds.Line = codes "line"
+name_of_cert_kind cert_kinds.Truncated = codes "truncated"
+name_of_cert_kind cert_kinds.Limit = codes "limit"
+name_of_cert_kind cert_kinds.Signals = codes "signals"
+name_of_cert_kind cert_kinds.Class = codes "class"
+name_of_cert_kind cert_kinds.Outputs = codes "outputs"
+name_of_cert_kind cert_kinds.Order = codes "order"
+name_of_cert_kind cert_kinds.Derivation = codes "derivation"
+
+abbrev pub cert_fault_text : List ℕ → CertFault → List ℕ
+cert_fault_text name fault = about name ++ ((name_of_cert_kind fault.kind ++ codes " at line ") ++ (decimal fault.line ++ codes "\n"))
 
 abbrev pub differ_text : List ℕ → ℕ → ℕ → List ℕ
 differ_text what a b = codes "sec: " ++ ((what ++ codes " differ: ") ++ ((decimal a ++ codes " and ") ++ (decimal b ++ codes "\n")))

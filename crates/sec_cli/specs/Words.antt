@@ -101,6 +101,15 @@ abbrev pub replay_of : Option Reading → Option Command
 replay_of None = None
 replay_of (Some r) = if has_options r then None else replay_read r.first r.second r.third r.waiting
 
+-- and so is `verify`
+abbrev pub verify_read : Option ℕ → Option ℕ → Option ℕ → Waiting → Option Command
+verify_read (Some left) (Some right) (Some cert) Nothing = Some (commands.Verify (record { left = left; right = right; cert = cert }))
+verify_read first second third waiting = None
+
+abbrev pub verify_of : Option Reading → Option Command
+verify_of None = None
+verify_of (Some r) = if has_options r then None else verify_read r.first r.second r.third r.waiting
+
 -- a size: 0, or a number up to 100000
 abbrev pub size_of : List ℕ → Option ℕ
 size_of word = if bytes_eq word (codes "0") then Some 0 else number_of 100000 word
@@ -124,6 +133,7 @@ command_of words =
     if ltb (length words) 2 then None
     else if bytes_eq (word_at words 1) (codes "check") then check_of (read_all (Some none_read) 2 (drop 2 words))
     else if bytes_eq (word_at words 1) (codes "replay") then replay_of (read_all (Some none_read) 2 (drop 2 words))
+    else if bytes_eq (word_at words 1) (codes "verify") then verify_of (read_all (Some none_read) 2 (drop 2 words))
     else if bytes_eq (word_at words 1) (codes "demo") then demo_of words (read_all (Some none_read) 2 (drop 2 words))
     else None
 
@@ -158,4 +168,5 @@ pub record IsDemoOf (d : Demo) : Type 0 where
 abbrev pub AreWordsOf : ℕ → Command → Type 0
 AreWordsOf n (commands.Check c) = IsCheckOf n c
 AreWordsOf n (commands.Replay c) = (c.left < n) × (c.right < n) × (c.trace < n)
+AreWordsOf n (commands.Verify c) = (c.left < n) × (c.right < n) × (c.cert < n)
 AreWordsOf n (commands.Demo d) = IsDemoOf d

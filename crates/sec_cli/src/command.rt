@@ -3,7 +3,7 @@ ghost use Rattle.std.specs.Prelude.{◌≡◌, ◌≢◌, ◌≤◌, ◌<◌, �
 ghost use Rattle.sec_base.specs.Faults.{Rose, appended};
 ghost use Rattle.sec_cli.specs.Words.{texts, command_of, word_at, AreWordsOf, IsCheckOf, IsDemoOf};
 ghost use Rattle.sec_cli.specs.Texts.{usage_text, memory_text};
-ghost use Rattle.sec_cli.specs.Endings.{Ending, IsCheckEnding, IsReplayEnding, IsDemoEnding, IsEnding, IsLoadEnding, failed_names, left_name, right_name, trace_name};
+ghost use Rattle.sec_cli.specs.Endings.{Ending, IsCheckEnding, IsReplayEnding, IsVerifyEnding, IsDemoEnding, IsEnding, IsLoadEnding, failed_names, left_name, right_name, third_name};
 ghost use Rattle.sec_cli.specs.Reports.{IsTold, IsReport, refusal_status, told_of};
 ghost use Rattle.sec_cli.specs.Runs.{IsAnswered, IsRefused, IsUnread, IsUnwritten};
 
@@ -14,6 +14,7 @@ use crate::ending::{Answer, Refusal};
 use crate::loading::load_pair;
 use crate::replaying::replay;
 use crate::telling::{refusal_status, tell, tell_refusal};
+use crate::verifying::verify_file;
 use crate::words::{Check, Command, Demo, command_of};
 use sec_base::{Shelf, Sink};
 use std::alloc::Global;
@@ -77,6 +78,28 @@ fn replay_files<S: Shelf>(
     }
 }
 
+// The answer of reading the third file as a certificate for the other two.
+fn verify_files<S: Shelf>(
+    alloc: Global,
+    shelf: &mut S,
+    left: &str,
+    right: &str,
+    cert: &str,
+) -> Result<Answer, Refusal>
+    ensures ending { IsTrue S.tells → IsVerifyEnding (S.file shelf.old left.now) (S.file shelf.old right.now) (S.file shelf.old cert.now) result }
+    ensures status { IfOk result (λ a. a.status ≤ 2) }
+    ensures failed { IsLoadEnding result → Rose (S.load_faults shelf.old) (S.load_faults shelf.new) }
+    ensures files { S.file shelf.new ≡ S.file shelf.old }
+    ensures names { S.failed shelf.new ≡ appended (S.failed shelf.old) (failed_names left.now right.now cert.now result) }
+    ensures load_count { S.load_faults shelf.old ≤ S.load_faults shelf.new }
+    ensures store_count { S.store_faults shelf.new ≡ S.store_faults shelf.old }
+{
+    match load_pair(alloc, shelf, left, right) {
+        Err(unpaired) => Err(Refusal::Unpaired(unpaired)),
+        Ok(product) => verify_file(alloc, shelf, &product, cert),
+    }
+}
+
 // The answer of a demo, which loads no files.
 fn demo_ending(alloc: Global, d: &Demo) -> Result<Answer, Refusal>
     requires { IsDemoOf d.now }
@@ -103,7 +126,7 @@ fn decide<S: Shelf>(
     ensures status { IfOk result (λ a. a.status ≤ 2) }
     ensures failed { IsLoadEnding result → Rose (S.load_faults shelf.old) (S.load_faults shelf.new) }
     ensures files { S.file shelf.new ≡ S.file shelf.old }
-    ensures names { S.failed shelf.new ≡ appended (S.failed shelf.old) (failed_names (left_name (texts words.now) command) (right_name (texts words.now) command) (trace_name (texts words.now) command) result) }
+    ensures names { S.failed shelf.new ≡ appended (S.failed shelf.old) (failed_names (left_name (texts words.now) command) (right_name (texts words.now) command) (third_name (texts words.now) command) result) }
     ensures load_count { S.load_faults shelf.old ≤ S.load_faults shelf.new }
     ensures store_count { S.store_faults shelf.new ≡ S.store_faults shelf.old }
 {
@@ -123,6 +146,13 @@ fn decide<S: Shelf>(
             words[c.left].as_str(),
             words[c.right].as_str(),
             words[c.trace].as_str(),
+        ),
+        Command::Verify(c) => verify_files(
+            alloc,
+            shelf,
+            words[c.left].as_str(),
+            words[c.right].as_str(),
+            words[c.cert].as_str(),
         ),
         Command::Demo(d) => demo_ending(alloc, &d),
     }
@@ -157,6 +187,17 @@ fn refuse<E: Sink>(words: &[String], command: Command, refusal: Refusal, err: &m
             );
             refusal_status(refusal)
         }
+        Command::Verify(c) => {
+            let cert = words[c.cert].as_str();
+            tell_refusal(
+                err,
+                words[c.left].as_str(),
+                words[c.right].as_str(),
+                cert,
+                refusal,
+            );
+            refusal_status(refusal)
+        }
         Command::Demo(_) => {
             tell_refusal(err, "", "", "", refusal);
             refusal_status(refusal)
@@ -176,7 +217,7 @@ fn perform<S: Shelf, O: Sink, E: Sink>(
     requires words { AreWordsOf (length words.now) command }
     ensures reported { (e : Ending) × (IsTrue S.tells → IsEnding (S.file shelf.old) (texts words.now) command e) × IfOk e (λ a. a.status ≤ 2)
         × (IsLoadEnding e → Rose (S.load_faults shelf.old) (S.load_faults shelf.new))
-        × (S.failed shelf.new ≡ appended (S.failed shelf.old) (failed_names (left_name (texts words.now) command) (right_name (texts words.now) command) (trace_name (texts words.now) command) e))
+        × (S.failed shelf.new ≡ appended (S.failed shelf.old) (failed_names (left_name (texts words.now) command) (right_name (texts words.now) command) (third_name (texts words.now) command) e))
         × IsReport S.tells (texts words.now) command e
         (record { files = S.file shelf.old; store_faults = S.store_faults shelf.old; out = O.taken out.old; out_faults = O.faults out.old; err = E.taken err.old; err_faults = E.faults err.old })
         (record { files = S.file shelf.new; store_faults = S.store_faults shelf.new; out = O.taken out.new; out_faults = O.faults out.new; err = E.taken err.new; err_faults = E.faults err.new }) result }
@@ -192,9 +233,9 @@ fn perform<S: Shelf, O: Sink, E: Sink>(
 }
 
 /// One run of the program over these words, of which the first is its own name: `check LEFT RIGHT [-k K] [-j J] [--classes]
-/// [--trace FILE]`, `replay LEFT RIGHT TRACE` or `demo N [-k K] [-j J]`. `check` decides by signal correspondence with k-induction (van Eijk, IEEE TCAD
+/// [--trace FILE]`, `replay LEFT RIGHT TRACE`, `verify LEFT RIGHT CERT` or `demo N [-k K] [-j J]`. `check` decides by signal correspondence with k-induction (van Eijk, IEEE TCAD
 /// 19(7), 2000; Sheeran, Singh, Stålmarck, FMCAD 2000) after a search for a difference in the first k frames; `replay` tells
-/// the first difference of a stored trace; `demo` checks a pair of any size that it makes itself.
+/// the first difference of a stored trace; `verify` reads a stored certificate, without solver or threads; `demo` checks a pair of any size that it makes itself.
 pub fn run<S: Shelf, O: Sink, E: Sink>(
     alloc: Global,
     words: &[String],

@@ -65,7 +65,7 @@ fn store_place(command: Command, status: u8) -> Option<usize>
 {
     match command {
         Command::Check(c) => if status == 1 { c.trace } else { None },
-        Command::Replay(_) | Command::Demo(_) => None,
+        Command::Replay(_) | Command::Verify(_) | Command::Demo(_) => None,
     }
 }
 

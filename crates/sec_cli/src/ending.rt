@@ -1,4 +1,5 @@
 use aiger_codec::NetFault;
+use corr_certificate::CertFault;
 use trace_witness::TraceFault;
 
 /// One of the two netlists' files.
@@ -51,10 +52,12 @@ pub enum Refusal {
     Memory,
     /// There is no pair of the two files.
     Unpaired(Unpaired),
-    /// The trace couldn't be loaded.
-    TraceFailed,
-    /// The trace's file is too long.
-    TraceTooLong,
+    /// The trace or certificate couldn't be loaded.
+    ThirdFailed,
+    /// Its file is too long.
+    ThirdTooLong,
     /// The trace has this first fault.
     TraceRefused(TraceFault),
+    /// The certificate has this first fault.
+    CertRefused(CertFault),
 }

@@ -13,11 +13,12 @@ mod plain;
 mod replaying;
 mod telling;
 mod texts;
+mod verifying;
 mod words;
 
 pub use command::{Report, run};
 pub use ending::{Answer, Refusal, Side, Unpaired};
-pub use words::{Check, Command, Demo, Replay};
+pub use words::{Check, Command, Demo, Replay, Verify};
 
 #[cfg(test)]
 mod tests;

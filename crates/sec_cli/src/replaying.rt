@@ -3,7 +3,7 @@ ghost use Rattle.std.specs.Prelude.{◌≡◌, ◌≤◌, ◌<◌, ◌^◌, ℕ,
 ghost use Rattle.sec_base.specs.Faults.{Rose, appended};
 ghost use Rattle.circ_model.specs.Meaning.{IsRun};
 ghost use Rattle.sec_cli.specs.Answers.{IsReplayOf};
-ghost use Rattle.sec_cli.specs.Endings.{IsReplayed, IsReplayedAs, IsOfPair, IsLoadEnding, failed_trace};
+ghost use Rattle.sec_cli.specs.Endings.{IsReplayed, IsReplayedAs, IsOfPair, IsLoadEnding, failed_third};
 
 use crate::ending::{Answer, Refusal};
 use crate::lines::{agrees_line, differs_line};
@@ -12,7 +12,7 @@ use sec_base::{LoadFault, Shelf};
 use std::alloc::{AllocError, Global};
 use trace_witness::{TraceError, first_difference, read_trace};
 
-const LONGEST_TRACE: u64 = 1099511627776;
+const LONGEST_THIRD: u64 = 1099511627776;
 
 // What a run shows.
 fn answer_of(alloc: Global, product: &Product, run: &Path) -> Result<Answer, AllocError>
@@ -63,15 +63,15 @@ pub(crate) fn replay<S: Shelf>(
     ensures failed { IsLoadEnding result → Rose (S.load_faults shelf.old) (S.load_faults shelf.new) }
     ensures no_pair { IsOfPair result }
     ensures files { S.file shelf.new ≡ S.file shelf.old }
-    ensures names { S.failed shelf.new ≡ appended (S.failed shelf.old) (failed_trace name.now result) }
+    ensures names { S.failed shelf.new ≡ appended (S.failed shelf.old) (failed_third name.now result) }
     ensures load_count { S.load_faults shelf.old ≤ S.load_faults shelf.new }
     ensures store_count { S.store_faults shelf.new ≡ S.store_faults shelf.old }
 {
     let mut bytes = Vec::new(alloc);
-    match shelf.load(name, LONGEST_TRACE, &mut bytes) {
+    match shelf.load(name, LONGEST_THIRD, &mut bytes) {
         Ok(()) => replay_bytes(alloc, product, bytes.as_slice()),
-        Err(LoadFault::TooLong) => Err(Refusal::TraceTooLong),
-        Err(LoadFault::Failed) => Err(Refusal::TraceFailed),
+        Err(LoadFault::TooLong) => Err(Refusal::ThirdTooLong),
+        Err(LoadFault::Failed) => Err(Refusal::ThirdFailed),
         Err(LoadFault::Memory) => Err(Refusal::Memory),
     }
 }

@@ -1,15 +1,16 @@
 // What is told of a run that answers nothing, and its status.
 ghost use Rattle.std.specs.Prelude.{◌≡◌, ◌≤◌};
-ghost use Rattle.sec_cli.specs.Texts.{read_failed_text, store_failed_text, fault_text, trace_fault_text, differ_text};
+ghost use Rattle.sec_cli.specs.Texts.{read_failed_text, store_failed_text, fault_text, trace_fault_text, cert_fault_text, differ_text};
 ghost use Rattle.sec_cli.specs.Reports.{IsTold, name_of_side, unpaired_status, unpaired_text, refusal_status, refusal_text};
 
 use crate::ending::{Refusal, Side, Unpaired};
-use crate::texts::{write_about_file, write_differ, write_fault, write_trace_fault};
+use crate::texts::{write_about_file, write_cert_fault, write_differ, write_fault, write_trace_fault};
 use aiger_codec::{NetFault, NetKind};
+use corr_certificate::CertFault;
 use sec_base::{Sink, write_text};
 use trace_witness::TraceFault;
 
-const LONGEST_TRACE: u64 = 1099511627776;
+const LONGEST_THIRD: u64 = 1099511627776;
 
 /// Tells a text that was written or cut short.
 pub(crate) fn tell<E: Sink>(err: &mut E, text: &[u8])
@@ -51,6 +52,14 @@ fn tell_trace_fault<E: Sink>(err: &mut E, name: &[u8], fault: TraceFault)
     let _told = write_trace_fault(err, name, fault);
 }
 
+// Tells the first fault of a certificate.
+fn tell_cert_fault<E: Sink>(err: &mut E, name: &[u8], fault: CertFault)
+    ensures told { IsTold (E.taken err.old) (E.faults err.old) (cert_fault_text name.now fault) (E.taken err.new) (E.faults err.new) }
+    ensures count { E.faults err.old ≤ E.faults err.new }
+{
+    let _told = write_cert_fault(err, name, fault);
+}
+
 // Tells that counts differ.
 fn tell_differ<E: Sink>(err: &mut E, what: &[u8], left: u32, right: u32)
     ensures told { IsTold (E.taken err.old) (E.faults err.old) (differ_text what.now left right) (E.taken err.new) (E.faults err.new) }
@@ -90,24 +99,25 @@ pub(crate) fn tell_refusal<E: Sink>(
     err: &mut E,
     left: &str,
     right: &str,
-    trace: &str,
+    third: &str,
     refusal: Refusal,
 )
-    ensures told { IsTold (E.taken err.old) (E.faults err.old) (refusal_text left.now right.now trace.now refusal) (E.taken err.new) (E.faults err.new) }
+    ensures told { IsTold (E.taken err.old) (E.faults err.old) (refusal_text left.now right.now third.now refusal) (E.taken err.new) (E.faults err.new) }
     ensures count { E.faults err.old ≤ E.faults err.new }
 {
     match refusal {
         Refusal::Memory => tell(err, b"sec: out of memory\n"),
         Refusal::Unpaired(unpaired) => tell_unpaired(err, left, right, unpaired),
-        Refusal::TraceFailed => tell_unread(err, trace.as_bytes()),
-        Refusal::TraceTooLong => {
+        Refusal::ThirdFailed => tell_unread(err, third.as_bytes()),
+        Refusal::ThirdTooLong => {
             let fault = NetFault {
                 kind: NetKind::Limit,
-                at: LONGEST_TRACE,
+                at: LONGEST_THIRD,
             };
-            tell_fault(err, trace.as_bytes(), fault)
+            tell_fault(err, third.as_bytes(), fault)
         }
-        Refusal::TraceRefused(fault) => tell_trace_fault(err, trace.as_bytes(), fault),
+        Refusal::TraceRefused(fault) => tell_trace_fault(err, third.as_bytes(), fault),
+        Refusal::CertRefused(fault) => tell_cert_fault(err, third.as_bytes(), fault),
     }
 }
 
@@ -129,7 +139,7 @@ pub(crate) fn refusal_status(refusal: Refusal) -> u8
     match refusal {
         Refusal::Memory => 7,
         Refusal::Unpaired(unpaired) => unpaired_status(unpaired),
-        Refusal::TraceFailed => 5,
-        Refusal::TraceTooLong | Refusal::TraceRefused(_) => 4,
+        Refusal::ThirdFailed => 5,
+        Refusal::ThirdTooLong | Refusal::TraceRefused(_) | Refusal::CertRefused(_) => 4,
     }
 }

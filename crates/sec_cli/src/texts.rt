@@ -1,9 +1,10 @@
 // What a run says of refusals. These texts take no memory, so that want of memory can be told too.
 ghost use Rattle.std.specs.Prelude.{◌≡◌, ◌≤◌, ◌++◌, codes, decimal, OnOk, OnErr};
 ghost use Rattle.sec_base.specs.Faults.{Rose, appended, IsCutShort};
-ghost use Rattle.sec_cli.specs.Texts.{about, fault_text, trace_fault_text, differ_text};
+ghost use Rattle.sec_cli.specs.Texts.{about, fault_text, trace_fault_text, name_of_cert_kind, cert_fault_text, differ_text};
 
 use aiger_codec::NetFault;
+use corr_certificate::{CertFault, CertKind};
 use sec_base::{Failed, Sink, write_number, write_text};
 use trace_witness::TraceFault;
 
@@ -79,6 +80,38 @@ pub(crate) fn write_trace_fault<K: Sink>(
 {
     write_about(sink, name)?;
     write_kind_and_place(sink, fault.kind.name().as_bytes(), b" at line ", fault.line)
+}
+
+// The name of a kind of faults of certificates.
+fn cert_kind_name(kind: CertKind) -> &'static str
+    ensures { result.now ≡ name_of_cert_kind kind }
+{
+    match kind {
+        CertKind::Line => "line",
+        CertKind::Truncated => "truncated",
+        CertKind::Limit => "limit",
+        CertKind::Signals => "signals",
+        CertKind::Class => "class",
+        CertKind::Outputs => "outputs",
+        CertKind::Order => "order",
+        CertKind::Derivation => "derivation",
+    }
+}
+
+/// The text about a certificate's first fault.
+pub(crate) fn write_cert_fault<K: Sink>(
+    sink: &mut K,
+    name: &[u8],
+    fault: CertFault,
+) -> Result<(), Failed>
+    ensures ok { OnOk result (K.taken sink.new ≡ appended (K.taken sink.old) (cert_fault_text name.now fault)) }
+    ensures cut_short { OnErr result (IsCutShort (K.taken sink.old) (cert_fault_text name.now fault) (K.taken sink.new)) }
+    ensures failed { OnErr result (Rose (K.faults sink.old) (K.faults sink.new)) }
+    ensures count { K.faults sink.old ≤ K.faults sink.new }
+{
+    write_about(sink, name)?;
+    let kind = cert_kind_name(fault.kind);
+    write_kind_and_place(sink, kind.as_bytes(), b" at line ", fault.line)
 }
 
 // The kind of a fault and its place.

@@ -1,6 +1,6 @@
 // The words of a run: which command they are, with which files and options.
 ghost use Rattle.std.specs.Prelude.{◌≡◌, ◌≤◌, ◌<◌, ℕ, List, drop, length, IfSome, Some};
-ghost use Rattle.sec_cli.specs.Words.{is_name, leads_zero, texts, number_of, none_read, step, named, word_read, flag_read, read_all, check_of, replay_of, size_of, demo_of, command_of, AreWithin, AreWordsOf, IsUpTo};
+ghost use Rattle.sec_cli.specs.Words.{is_name, leads_zero, texts, number_of, none_read, step, named, word_read, flag_read, read_all, check_of, replay_of, has_options, verify_of, size_of, demo_of, command_of, AreWithin, AreWordsOf, IsUpTo};
 
 use aiger_codec::read_number;
 
@@ -27,6 +27,14 @@ pub struct Replay {
     pub trace: usize,
 }
 
+/// The words of `verify`, likewise.
+#[derive(Clone, Copy, Debug, PartialEq, Eq)]
+pub struct Verify {
+    pub left: usize,
+    pub right: usize,
+    pub cert: usize,
+}
+
 /// The words of `demo`.
 #[derive(Clone, Copy, Debug, PartialEq, Eq)]
 pub struct Demo {
@@ -43,6 +51,7 @@ pub struct Demo {
 pub enum Command {
     Check(Check),
     Replay(Replay),
+    Verify(Verify),
     Demo(Demo),
 }
 
@@ -257,16 +266,38 @@ fn check_of(r: Reading) -> Option<Command>
     }
 }
 
+// Whether an option was there.
+fn has_options(r: Reading) -> bool
+    ensures { result ≡ has_options r }
+{
+    r.k.is_some() || r.workers.is_some() || r.classes || r.trace.is_some()
+}
+
 fn replay_of(r: Reading) -> Option<Command>
     ensures command { result ≡ replay_of (Some r) }
     ensures within { (n : ℕ) → AreWithin n r → IfSome result (AreWordsOf n) }
 {
-    if r.k.is_some() || r.workers.is_some() || r.classes || r.trace.is_some() {
+    if has_options(r) {
         return None;
     }
     match (r.first, r.second, r.third, r.waiting) {
         (Some(left), Some(right), Some(trace), Waiting::Nothing) => {
             Some(Command::Replay(Replay { left, right, trace }))
+        }
+        _ => None,
+    }
+}
+
+fn verify_of(r: Reading) -> Option<Command>
+    ensures command { result ≡ verify_of (Some r) }
+    ensures within { (n : ℕ) → AreWithin n r → IfSome result (AreWordsOf n) }
+{
+    if has_options(r) {
+        return None;
+    }
+    match (r.first, r.second, r.third, r.waiting) {
+        (Some(left), Some(right), Some(cert), Waiting::Nothing) => {
+            Some(Command::Verify(Verify { left, right, cert }))
         }
         _ => None,
     }
@@ -320,6 +351,8 @@ pub(crate) fn command_of(words: &[String]) -> Option<Command>
         check_of(reading)
     } else if name == b"replay".as_slice() {
         replay_of(reading)
+    } else if name == b"verify".as_slice() {
+        verify_of(reading)
     } else if name == b"demo".as_slice() {
         demo_of(words, reading)
     } else {

@@ -1,0 +1,67 @@
+// The answer of `verify`: whether a stored certificate supports a pair.
+ghost use Rattle.std.specs.Prelude.{◌≡◌, ◌≤◌, ◌<◌, ◌^◌, ℕ, List, [], ◌∷◌, ◌++◌, IsTrue, IfOk, length};
+ghost use Rattle.sec_base.specs.Faults.{Rose, appended};
+ghost use Rattle.sec_cli.specs.Texts.{verified_line};
+ghost use Rattle.sec_cli.specs.Endings.{IsVerified, IsVerifiedAs, IsOfPair, IsLoadEnding, failed_third};
+
+use crate::ending::{Answer, Refusal};
+use corr_certificate::{Checked, verify};
+use product_machine::Product;
+use sec_base::{LoadFault, Shelf};
+use std::alloc::{AllocError, Global};
+
+const LONGEST_THIRD: u64 = 1099511627776;
+
+// The answer where there is no fault.
+fn verified(alloc: Global) -> Result<Answer, AllocError>
+    ensures { IfOk result (λ a. (a.status ≡ 0) × (a.text.items ≡ verified_line)) }
+{
+    let text = Vec::from_slice(alloc, b"verified\n".as_slice())?;
+    Ok(Answer {
+        status: 0,
+        text,
+        trace: Vec::new(alloc),
+    })
+}
+
+// What the bytes of a certificate show.
+fn verify_bytes(alloc: Global, product: &Product, bytes: &[u8]) -> Result<Answer, Refusal>
+    ensures verified { IsVerifiedAs product.now bytes.now result }
+    ensures status { IfOk result (λ a. a.status ≤ 2) }
+    ensures no_pair { IsOfPair result }
+    ensures loaded { IsLoadEnding result → ⊥ }
+{
+    match verify(alloc, product, bytes) {
+        Ok(Checked::Yes) => match verified(alloc) {
+            Ok(answer) => Ok(answer),
+            Err(_) => Err(Refusal::Memory),
+        },
+        Ok(Checked::No(fault)) => Err(Refusal::CertRefused(fault)),
+        Err(_) => Err(Refusal::Memory),
+    }
+}
+
+/// How the reading of a certificate's file for a pair ends.
+pub(crate) fn verify_file<S: Shelf>(
+    alloc: Global,
+    shelf: &mut S,
+    product: &Product,
+    name: &str,
+) -> Result<Answer, Refusal>
+    ensures verified { IsTrue S.tells → IsVerified product.now (S.file shelf.old name.now) result }
+    ensures status { IfOk result (λ a. a.status ≤ 2) }
+    ensures failed { IsLoadEnding result → Rose (S.load_faults shelf.old) (S.load_faults shelf.new) }
+    ensures no_pair { IsOfPair result }
+    ensures files { S.file shelf.new ≡ S.file shelf.old }
+    ensures names { S.failed shelf.new ≡ appended (S.failed shelf.old) (failed_third name.now result) }
+    ensures load_count { S.load_faults shelf.old ≤ S.load_faults shelf.new }
+    ensures store_count { S.store_faults shelf.new ≡ S.store_faults shelf.old }
+{
+    let mut bytes = Vec::new(alloc);
+    match shelf.load(name, LONGEST_THIRD, &mut bytes) {
+        Ok(()) => verify_bytes(alloc, product, bytes.as_slice()),
+        Err(LoadFault::TooLong) => Err(Refusal::ThirdTooLong),
+        Err(LoadFault::Failed) => Err(Refusal::ThirdFailed),
+        Err(LoadFault::Memory) => Err(Refusal::Memory),
+    }
+}
