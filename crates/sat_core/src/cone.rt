@@ -120,11 +120,7 @@ impl Cone {
 }
 
 // Meets the variables of a clause.
-fn meet_all(
-    clause: &[u32],
-    met: &mut Vec<bool>,
-    stack: &mut Vec<u32>,
-) -> Result<(), AllocError> {
+fn meet_all(clause: &[u32], met: &mut Vec<bool>, stack: &mut Vec<u32>) -> Result<(), AllocError> {
     for lit in clause {
         meet(*lit / 2 + 1, met, stack)?;
     }

@@ -78,7 +78,8 @@ impl Ready {
     {
         let mut hints = self.hints.copy(alloc, vars)?;
         hints.take_in(alloc, vars, formula, self.codes.len())?;
-        self.cone.lead(alloc, formula, self.codes.len(), &mut hints.order)?;
+        self.cone
+            .lead(alloc, formula, self.codes.len(), &mut hints.order)?;
         Ok(hints)
     }
 

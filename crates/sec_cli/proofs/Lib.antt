@@ -4,6 +4,5 @@ pub mod Concluding
 pub mod LeftOut
 pub mod Verdicts
 pub mod Pairing
-pub mod Linking
 pub mod Trying
-pub mod Sure
+pub mod Unfailing

@@ -7,7 +7,7 @@ use Rattle.class_partition.specs.Classes.{Classes, ArePartition, AreOfGreatest}
 use Rattle.trace_witness.specs.Lines.{lines_of}
 use Rattle.trace_witness.specs.Texts.{trace_text, trace_of}
 use Rattle.trace_witness.specs.declared.read.Trace.{Trace}
-use Rattle.sec_cli.specs.ClassLines.{class_lines}
+use Rattle.class_text.specs.ClassLines.{class_lines}
 use Rattle.sec_cli.specs.Texts.{equivalent_line, undecided_line, different_line, differs_line, agrees_line, verified_line, demo_line}
 use Rattle.sec_cli.specs.declared.ending.Answer.{Answer}
 use Rattle.sec_cli.specs.declared.words.Check.{Check}

@@ -1,7 +1,5 @@
 pub mod Words
 pub mod Texts
-pub mod ClassLines
-pub mod Links
 pub mod Outputs
 pub mod Answers
 pub mod Endings

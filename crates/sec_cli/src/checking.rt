@@ -8,11 +8,11 @@ ghost use Rattle.induction_base.specs.Least.{IsShown};
 ghost use Rattle.sec_cli.specs.Outputs.{AreLeftOut};
 ghost use Rattle.sec_cli.specs.Answers.{AreClassLines, IsCheckAnswer};
 
-use crate::class_lines::push_class_lines;
 use crate::ending::Answer;
 use crate::lines::{different_line, equivalent_line, push_numbers, undecided_head};
 use crate::words::Check;
 use class_partition::Classes;
+use class_text::push_class_lines;
 use induction_base::{Diff, least_difference};
 use product_machine::Product;
 use std::alloc::{AllocError, Global};

@@ -2,7 +2,6 @@
 #![tactic(auto)]
 
 mod checking;
-mod class_lines;
 mod command;
 mod delivering;
 mod demo;

@@ -352,6 +352,41 @@ fn files_that_are_refused(rt: HostRuntime) -> Result<(), Fail> {
 }
 
 #[test]
+fn demos_are_equivalent(rt: HostRuntime) -> Result<(), Fail> {
+    let alloc = rt.alloc();
+    let rows = [
+        (
+            "sec demo 0",
+            "demo n=0 inputs=0 latches=0 gates=0 outputs=0\nequivalent k=1 signals=1 classes=1\n",
+        ),
+        (
+            "sec demo 1 -k 1",
+            "demo n=1 inputs=1 latches=1 gates=6 outputs=1\nequivalent k=1 signals=16 classes=4\n",
+        ),
+        (
+            "sec demo 2",
+            "demo n=2 inputs=2 latches=2 gates=12 outputs=2\nequivalent k=1 signals=31 classes=9\n",
+        ),
+        (
+            "sec demo -j 7 5",
+            "demo n=5 inputs=5 latches=5 gates=30 outputs=5\nequivalent k=1 signals=76 classes=27\n",
+        ),
+        (
+            "sec demo 10",
+            "demo n=10 inputs=10 latches=10 gates=60 outputs=10\nequivalent k=1 signals=151 classes=70\n",
+        ),
+        (
+            "sec demo 20",
+            "demo n=20 inputs=20 latches=20 gates=120 outputs=20\nequivalent k=1 signals=301 classes=147\n",
+        ),
+    ];
+    for (words, out) in rows {
+        assert!(rt; answers_so(alloc, &case(words, "", "", 0, out, ""))?);
+    }
+    Ok(())
+}
+
+#[test]
 fn words_that_are_no_command(rt: HostRuntime) -> Result<(), Fail> {
     let alloc = rt.alloc();
     let usage =
@@ -373,6 +408,12 @@ fn words_that_are_no_command(rt: HostRuntime) -> Result<(), Fail> {
         "sec verify left right",
         "sec verify left right trace -k 1",
         "sec proof left right",
+        "sec demo",
+        "sec demo 01",
+        "sec demo 100001",
+        "sec demo 1 2",
+        "sec demo 1 --classes",
+        "sec demo -k 1",
     ] {
         assert!(rt; answers_so(alloc, &case(words, TOGGLE, TOGGLE, 3, "", usage))?);
     }

@@ -5,7 +5,7 @@ use Rattle.verdict_stamp.specs.Versions.{Passed}
 use Rattle.refine_board.specs.declared.marks.Mark.TheVariants.{Open, Proved}
 use Rattle.refine_board.specs.declared.journal.Step.TheVariants.{Counted}
 use Rattle.refine_board.specs.States.{State, called, cleared, marked}
-use Rattle.refine_board.specs.Running.{Running, IsRunning, IsUnder, state_of}
+use Rattle.refine_board.specs.Running.{Running, IsRunning, IsUnder, state_of, next_entry}
 use Rattle.refine_board.proofs.Runs.{running_after, held_after, was_there}
 use Rattle.refine_board.proofs.Judged.{counted_pair}
 use Rattle.refine_board.proofs.board.Board.count.Goals as goal
@@ -27,6 +27,6 @@ invariant_of-self g c =
     let is = running_after g.L.Run.pair g.L.Run.k g.L.Run.workers g.L.Run.opening before after i.journal.entries q (Counted p) (inside, refl, (judged.0, refl)) judged.1 was in (
       rw (c.note.ensures.calls, c.note.ensures.entries) is,
       c.self.invariant.1,
-      rw c.note.ensures.entries (held_after (places_of g.L.Run.pair) i.cursor i.cursor i.waiting i.owed.total i.journal.room c.note.new.journal.room g.L.Ledger.parts i.rest.parts before _ i.journal.entries _ held c.note.ensures.room (omega (arith, room, c.requires.room))
+      rw (c.note.ensures.calls, c.note.ensures.entries) (held_after (places_of g.L.Run.pair) i.cursor i.cursor i.waiting i.owed.total i.journal.room c.note.new.journal.room g.L.Ledger.parts i.rest.parts before after i.journal.entries (next_entry before q (Counted p)) held c.note.ensures.room (omega (arith, room, c.requires.room))
           (λ m lt open_now. held.passed m lt (open_now.0, was_there i.marks.items p.member m Proved Open Open (λ (e : Proved ≡ Open). cc) open_now.1)) held.cursor_in),
     )

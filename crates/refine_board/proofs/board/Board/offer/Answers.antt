@@ -4,7 +4,7 @@ use Rattle.class_partition.specs.declared.classes.Needed.{Needed}
 use Rattle.refine_board.specs.declared.marks.Mark.TheVariants.{Open, Out}
 use Rattle.refine_board.specs.declared.journal.Step.TheVariants.{Offered}
 use Rattle.refine_board.specs.States.{State, IsNeededPair, IsOpen, called, offered}
-use Rattle.refine_board.specs.Running.{Running, IsRunning, IsPassedBy, state_of}
+use Rattle.refine_board.specs.Running.{Running, IsRunning, IsPassedBy, state_of, next_entry}
 use Rattle.refine_board.proofs.Runs.{running_after, was_there, held_offered}
 use Rattle.refine_board.proofs.board.Board.offer.Goals as goal
 
@@ -27,6 +27,6 @@ invariant_of-self g c =
     let is = running_after g.L.Run.pair g.L.Run.k g.L.Run.workers g.L.Run.opening before after i.journal.entries q (Offered p) (inside, refl, ((needs, is_open.1, first), refl)) tt was in (
       rw (c.note.ensures.calls, c.note.ensures.entries, c.number-number.ensures) is,
       c.self.invariant.1,
-      rw c.note.ensures.entries (held_offered (places_of g.L.Run.pair) i.cursor i.waiting i.owed.total c.add.new.self.total i.journal.room c.note.new.journal.room g.L.Ledger.parts i.rest.parts c.split_off-unit.new.self.parts before _ i.journal.entries _ held c.note.ensures.room (omega (arith, room, c.requires.room)) c.add.ensures.total c.split_off-unit.ensures.parts_left
+      rw (c.note.ensures.calls, c.note.ensures.entries, c.number-number.ensures) (held_offered (places_of g.L.Run.pair) i.cursor i.waiting i.owed.total c.add.new.self.total i.journal.room c.note.new.journal.room g.L.Ledger.parts i.rest.parts c.split_off-unit.new.self.parts before after i.journal.entries (next_entry before q (Offered p)) held c.note.ensures.room (omega (arith, room, c.requires.room)) c.add.ensures.total c.split_off-unit.ensures.parts_left
           (λ n lt open_now. held.passed n lt (open_now.0, was_there i.marks.items p.member n Out Open Open (λ (e : Out ≡ Open). cc) open_now.1))),
     )

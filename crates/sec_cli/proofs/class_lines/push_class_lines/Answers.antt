@@ -1,7 +1,0 @@
-use Rattle.frame_unroll.proofs.Appending.{added_more}
-use Rattle.sec_cli.specs.ClassLines.{class_line}
-use Rattle.sec_cli.proofs.class_lines.push_class_lines.Goals as goal
-
-pub loop-first-preserved : goal.loop-first-preserved
-loop-first-preserved c =
-    added_more (class_line c.args.product.now c.args.classes.now) c.args.text.now.items c.loop-first.text.items c.push_class_line.new.text.items c.loop-first.first c.loop-first.invariant c.in_ok-push_class_line.ensures
