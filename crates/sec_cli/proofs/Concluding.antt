@@ -77,12 +77,12 @@ no_name left right trace refusals.ThirdTooLong h = refl
 no_name left right trace (refusals.TraceRefused f) h = refl
 no_name left right trace (refusals.CertRefused f) h = refl
 
--- only a difference is stored
-no_place : (c : Command) (status : ℕ) → status ≢ 1 → store_place c status ≡ None
+-- only differences and equivalences have a file
+no_place : (c : Command) (status : ℕ) → 2 ≤ status → store_place c status ≡ None
 no_place (commands.Replay c) status h = refl
 no_place (commands.Verify c) status h = refl
 no_place (commands.Demo d) status h = refl
-no_place (commands.Check c) status h = let e = ne_eqb status 1 h in rw e refl
+no_place (commands.Check c) status h = let d = ne_eqb status 1 (λ e. omega (arith, h, e)) in let q = ne_eqb status 0 (λ e. omega (arith, h, e)) in rw d (rw q refl)
 
 -- the clauses of a run, for each ending
 pub answered : (tells : Bool) (words : List (List ℕ)) (c : Command) (e : Ending) (before after : World) (status : ℕ) → IfOk e (λ a. a.status ≤ 2) → Ended tells before.files words c e → IsReport tells words c e before after status → status ≤ 2
@@ -144,12 +144,12 @@ names_stay tells words c (Ok a) names names_after before after status named p h 
 names_stay tells words c (Err r) names names_after before after status named (is, p) h =
     named ∙ ap (appended names) (no_name (left_name words c) (right_name words c) (third_name words c) r (λ five. h (is ∙ five))) ∙ appended_none names
 
-pub files_stay : (tells : Bool) (words : List (List ℕ)) (c : Command) (e : Ending) (before after : World) (status : ℕ) → IsReport tells words c e before after status → status ≢ 1 → status ≢ 6 → after.files ≡ before.files
-files_stay tells words c (Ok a) before after status (inl (is, p)) one six =
-    subst (λ place. IsStored tells before.files after.files (name_at words place) a.trace.items) (no_place c a.status (λ e. one (is ∙ e))) p.stored
-files_stay tells words c (Ok a) before after status (inr (inl (is, p))) one six = absurd (six is)
-files_stay tells words c (Ok a) before after status (inr (inr (is, p))) one six = p.files
-files_stay tells words c (Err r) before after status (is, p) one six = p.files
+pub files_stay : (tells : Bool) (words : List (List ℕ)) (c : Command) (e : Ending) (before after : World) (status : ℕ) → IsReport tells words c e before after status → 2 ≤ status → status ≢ 6 → after.files ≡ before.files
+files_stay tells words c (Ok a) before after status (inl (is, p)) high six =
+    subst (λ place. IsStored tells before.files after.files (name_at words place) a.file.items) (no_place c a.status (omega (arith, is, high))) p.stored
+files_stay tells words c (Ok a) before after status (inr (inl (is, p))) high six = absurd (six is)
+files_stay tells words c (Ok a) before after status (inr (inr (is, p))) high six = p.files
+files_stay tells words c (Err r) before after status (is, p) high six = p.files
 
 pub within : (tells : Bool) (words : List (List ℕ)) (c : Command) (e : Ending) (before after : World) (status : ℕ) → IfOk e (λ a. a.status ≤ 2) → IsReport tells words c e before after status → (status ≤ 7) × (status ≢ 3)
 within tells words c (Ok a) before after status low (inl (is, p)) = (omega (arith, is, low), λ e. omega (arith, is, low, e))

@@ -1,8 +1,9 @@
 -- What a command answers, once its files are accepted: a status and a text.
-use Rattle.std.specs.Prelude.{◌≡◌, ℕ, ◌+◌, false, List, [], ◌++◌, length, Option, Some, None, Ok, MatchBool}
+use Rattle.std.specs.Prelude.{◌≡◌, ℕ, ◌+◌, false, List, [], ◌++◌, length, Option, Some, None, is_some, Ok, MatchBool}
 use Rattle.circ_model.specs.Meaning.{Pair, Path, IsRun, places_of}
 use Rattle.circ_model.specs.Verdict.{Verdict, Equivalent, Different, Undecided, IsVerdict, IsFirstDifference, FirstDifference}
 use Rattle.corr_certificate.specs.Certificate.{IsSupported}
+use Rattle.corr_certificate.specs.Writing.{IsCertificate}
 use Rattle.class_partition.specs.Classes.{Classes, ArePartition, AreOfGreatest}
 use Rattle.trace_witness.specs.Lines.{lines_of}
 use Rattle.trace_witness.specs.Texts.{trace_text, trace_of}
@@ -26,24 +27,30 @@ AreClassLines pair c lines = MatchBool c.classes
     ((classes : Classes) × ArePartition (places_of pair) classes × AreOfGreatest pair c.k classes × (lines ≡ class_lines pair classes))
     (lines ≡ [])
 
+-- a certificate of the greatest correspondence's classes, where it is asked for
+abbrev pub IsCertOf : Pair → Check → List ℕ → Type 0
+IsCertOf pair c file = MatchBool (is_some c.cert)
+    ((classes : Classes) × ArePartition (places_of pair) classes × AreOfGreatest pair c.k classes × IsCertificate pair c.k classes file × IsSupported pair file)
+    (Unit {0})
+
 -- a run that ends at its first difference, which is this one
 pub record ShowsDifference (pair : Pair) (frame output : ℕ) (run : Path) : Type 0 where
   pub is_run : IsRun pair run
   pub rows : length run.inputs ≡ frame + 1
   pub first : IsFirstDifference pair run frame output
 
--- what is printed of a verdict, and the trace in it, where there is one
+-- what is printed of a verdict, and its file: the trace in it, or a certificate, or nothing
 abbrev pub IsVerdictText : Pair → Check → Verdict → List ℕ → List ℕ → Type 0
-IsVerdictText pair c (Equivalent n) text trace = (lines : List ℕ) × AreClassLines pair c lines × (text ≡ equivalent_line c.k (places_of pair) n ++ lines)
-IsVerdictText pair c (Undecided n u) text trace = (lines : List ℕ) × AreClassLines pair c lines × (text ≡ undecided_line c.k (places_of pair) n u ++ lines)
-IsVerdictText pair c (Different t j) text trace = (run : Path) × ShowsDifference pair t j run × (trace ≡ trace_text j run) × (text ≡ different_line c.k t j ++ trace)
+IsVerdictText pair c (Equivalent n) text file = IsCertOf pair c file × ((lines : List ℕ) × AreClassLines pair c lines × (text ≡ equivalent_line c.k (places_of pair) n ++ lines))
+IsVerdictText pair c (Undecided n u) text file = (lines : List ℕ) × AreClassLines pair c lines × (text ≡ undecided_line c.k (places_of pair) n u ++ lines)
+IsVerdictText pair c (Different t j) text file = (run : Path) × ShowsDifference pair t j run × (file ≡ trace_text j run) × (text ≡ different_line c.k t j ++ file)
 
 -- the verdict's status and text
 abbrev pub IsVerdictAnswer : Pair → Check → ℕ → List ℕ → List ℕ → Type 0
-IsVerdictAnswer pair c status text trace = (v : Verdict) × IsVerdict pair c.k c.k v × (status ≡ status_of_verdict v) × IsVerdictText pair c v text trace
+IsVerdictAnswer pair c status text file = (v : Verdict) × IsVerdict pair c.k c.k v × (status ≡ status_of_verdict v) × IsVerdictText pair c v text file
 
 abbrev pub IsCheckAnswer : Pair → Check → Answer → Type 0
-IsCheckAnswer pair c answer = IsVerdictAnswer pair c answer.status answer.text.items answer.trace.items
+IsCheckAnswer pair c answer = IsVerdictAnswer pair c answer.status answer.text.items answer.file.items
 
 abbrev pub IsReplayText : Path → Option (ℕ × ℕ) → Answer → Type 0
 IsReplayText run (Some d) answer = (answer.status ≡ 1) × (answer.text.items ≡ differs_line d.0 d.1)
@@ -60,12 +67,12 @@ IsReplayAnswer pair bytes answer = (trace : Trace) × (trace_of pair (lines_of b
 abbrev pub IsVerifyAnswer : Pair → List ℕ → Answer → Type 0
 IsVerifyAnswer pair bytes answer = IsSupported pair bytes × (answer.status ≡ 0) × (answer.text.items ≡ verified_line)
 
--- a demo is checked as two files are, without class lines and stored traces
+-- a demo is checked as two files are, without class lines and stored files
 abbrev pub check_of_demo : Demo → Check
-check_of_demo d = record { left = 0; right = 0; k = d.k; workers = d.workers; classes = false; trace = None }
+check_of_demo d = record { left = 0; right = 0; k = d.k; workers = d.workers; classes = false; trace = None; cert = None }
 
 -- the line of the demo, and then the verdict of its pair
 abbrev pub IsDemoAnswer : Demo → Answer → Type 0
 IsDemoAnswer d answer =
     (left : Netlist) × (right : Netlist) × IsDemo d.n left right
-    × ((text : List ℕ) × IsVerdictAnswer (record { left = left; right = right }) (check_of_demo d) answer.status text answer.trace.items × (answer.text.items ≡ demo_line d.n ++ text))
+    × ((text : List ℕ) × IsVerdictAnswer (record { left = left; right = right }) (check_of_demo d) answer.status text answer.file.items × (answer.text.items ≡ demo_line d.n ++ text))

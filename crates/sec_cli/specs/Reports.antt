@@ -59,9 +59,9 @@ told_of words c r = refusal_text (left_name words c) (right_name words c) (third
 abbrev pub IsTold : Option (List ℕ) → ℕ → List ℕ → Option (List ℕ) → ℕ → Type 0
 IsTold before faults text after now = (after ≡ appended before text) ⊎ (Rose faults now × IsCutShort before text after)
 
--- where the command stores the trace of an answer of this status, by the place of the name
+-- where the command stores the file of an answer of this status, by the place of the name
 abbrev pub store_place : Command → ℕ → Option ℕ
-store_place (commands.Check c) status = if status == 1 then c.trace else None
+store_place (commands.Check c) status = if status == 1 then c.trace else if status == 0 then c.cert else None
 store_place (commands.Replay c) status = None
 store_place (commands.Verify c) status = None
 store_place (commands.Demo d) status = None
@@ -87,15 +87,15 @@ pub record World : Type 0 where
 abbrev pub IsToldIn : World → World → List ℕ → Type 0
 IsToldIn before after text = IsTold before.err before.err_faults text after.err after.err_faults
 
--- the trace of an answer was stored, where it has a name, and its text printed
+-- the file of an answer was stored, where it has a name, and its text printed
 pub record IsPrinted (tells : Bool) (name : Option (List ℕ)) (a : Answer) (before after : World) : Type 0 where
-  pub stored : IsStored tells before.files after.files name a.trace.items
+  pub stored : IsStored tells before.files after.files name a.file.items
   pub printed : after.out ≡ appended before.out a.text.items
   pub quiet : after.err ≡ before.err
 
 -- it was stored, and its printing failed
 pub record IsUnprinted (tells : Bool) (name : Option (List ℕ)) (a : Answer) (before after : World) : Type 0 where
-  pub stored : IsStored tells before.files after.files name a.trace.items
+  pub stored : IsStored tells before.files after.files name a.file.items
   pub rose : Rose before.out_faults after.out_faults
   pub cut : IsCutShort before.out a.text.items after.out
   pub told : IsToldIn before after write_failed_text

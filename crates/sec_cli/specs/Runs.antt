@@ -11,16 +11,16 @@ use Rattle.sec_cli.specs.Reports.{World, IsTold, IsStored, IsUnprinted, IsUnstor
 abbrev pub Ended : Bool → (List ℕ → Option (List ℕ)) → List (List ℕ) → Command → Ending → Type 0
 Ended tells file words c e = IsTrue tells → IsEnding file words c e
 
--- the name under which the trace of an answer is stored, if any
+-- the name under which the file of an answer is stored, if any
 abbrev pub store_name : List (List ℕ) → Command → Answer → Option (List ℕ)
 store_name words c a = name_at words (store_place c a.status)
 
--- the answer of the command was printed, its trace stored where it has a name for it; and it is true of the files
+-- the answer of the command was printed, its file stored where the command has a name for it; and it is true of the files
 pub record IsAnswered (tells : Bool) (words : List (List ℕ)) (c : Command) (status : ℕ) (before after : World) : Type 0 where
   pub answer : Answer
   pub ended : Ended tells before.files words c (Ok answer)
   pub status_is : answer.status ≡ status
-  pub stored : IsStored tells before.files after.files (store_name words c answer) answer.trace.items
+  pub stored : IsStored tells before.files after.files (store_name words c answer) answer.file.items
   pub printed : after.out ≡ appended before.out answer.text.items
 
 -- a refusal was told, and is true of the files

@@ -7,7 +7,7 @@ use Rattle.sec_cli.specs.declared.words.Demo.{Demo}
 use Rattle.sec_cli.specs.declared.words.Command.{Command}
 use Rattle.sec_cli.specs.declared.words.Command.TheVariants as commands
 use Rattle.sec_cli.specs.declared.words.Waiting.{Waiting}
-use Rattle.sec_cli.specs.declared.words.Waiting.TheVariants.{Nothing, Depth, Workers, Trace}
+use Rattle.sec_cli.specs.declared.words.Waiting.TheVariants.{Nothing, Depth, Workers, Trace, Cert}
 use Rattle.sec_cli.specs.declared.words.Reading.{Reading}
 
 -- a name is a nonempty word that doesn't begin with `-`
@@ -35,7 +35,7 @@ abbrev pub number_of : ℕ → List ℕ → Option ℕ
 number_of most word = number_within most word (number_at word 0)
 
 abbrev pub none_read : Reading
-none_read = record { first = None; second = None; third = None; k = None; workers = None; classes = false; trace = None; waiting = Nothing }
+none_read = record { first = None; second = None; third = None; k = None; workers = None; classes = false; trace = None; cert = None; waiting = Nothing }
 
 -- one more name
 abbrev pub named : Reading → ℕ → Option Reading
@@ -52,12 +52,18 @@ flag_read r at word =
     else if is_name word then named r at
     else None
 
+-- or an option with a name that comes next
+abbrev pub store_read : Reading → ℕ → List ℕ → Option Reading
+store_read r at word =
+    if bytes_eq word (codes "--trace") then if is_some r.trace then None else Some (record r { waiting = Trace })
+    else if bytes_eq word (codes "--cert") then if is_some r.cert then None else Some (record r { waiting = Cert })
+    else flag_read r at word
+
 abbrev pub word_read : Reading → ℕ → List ℕ → Option Reading
 word_read r at word =
     if bytes_eq word (codes "-k") then if is_some r.k then None else Some (record r { waiting = Depth })
     else if bytes_eq word (codes "-j") then if is_some r.workers then None else Some (record r { waiting = Workers })
-    else if bytes_eq word (codes "--trace") then if is_some r.trace then None else Some (record r { waiting = Trace })
-    else flag_read r at word
+    else store_read r at word
 
 abbrev pub with_number : (ℕ → Reading) → Option ℕ → Option Reading
 with_number set None = None
@@ -69,6 +75,7 @@ value_for Nothing r at word = word_read r at word
 value_for Depth r at word = with_number (λ n. record r { k = Some n; waiting = Nothing }) (number_of 16 word)
 value_for Workers r at word = with_number (λ n. record r { workers = Some n; waiting = Nothing }) (number_of 64 word)
 value_for Trace r at word = if is_name word then Some (record r { trace = Some at; waiting = Nothing }) else None
+value_for Cert r at word = if is_name word then Some (record r { cert = Some at; waiting = Nothing }) else None
 
 abbrev pub step : Reading → ℕ → List ℕ → Option Reading
 step r at word = value_for r.waiting r at word
@@ -82,7 +89,7 @@ read_all (Some r) at (w ∷ ws) = read_all (step r at w) (at + 1) ws
 -- two names and the options are `check`
 abbrev pub check_read : Option ℕ → Option ℕ → Option ℕ → Waiting → Reading → Option Command
 check_read (Some left) (Some right) None Nothing r =
-    Some (commands.Check (record { left = left; right = right; k = unwrap_or r.k 1; workers = unwrap_or r.workers 1; classes = r.classes; trace = r.trace }))
+    Some (commands.Check (record { left = left; right = right; k = unwrap_or r.k 1; workers = unwrap_or r.workers 1; classes = r.classes; trace = r.trace; cert = r.cert }))
 check_read first second third waiting r = None
 
 abbrev pub check_of : Option Reading → Option Command
@@ -95,7 +102,7 @@ replay_read (Some left) (Some right) (Some trace) Nothing = Some (commands.Repla
 replay_read first second third waiting = None
 
 abbrev pub has_options : Reading → Bool
-has_options r = is_some r.k || (is_some r.workers || (r.classes || is_some r.trace))
+has_options r = is_some r.k || (is_some r.workers || (r.classes || (is_some r.trace || is_some r.cert)))
 
 abbrev pub replay_of : Option Reading → Option Command
 replay_of None = None
@@ -120,7 +127,7 @@ demo_sized r (Some n) = Some (commands.Demo (record { n = n; k = unwrap_or r.k 1
 
 -- a size and the depth and workers are `demo`
 abbrev pub demo_read : List (List ℕ) → Option ℕ → Option ℕ → Option ℕ → Waiting → Reading → Option Command
-demo_read words (Some at) None None Nothing r = if r.classes || is_some r.trace then None else demo_sized r (size_of (word_at words at))
+demo_read words (Some at) None None Nothing r = if r.classes || (is_some r.trace || is_some r.cert) then None else demo_sized r (size_of (word_at words at))
 demo_read words first second third waiting r = None
 
 abbrev pub demo_of : List (List ℕ) → Option Reading → Option Command
@@ -150,6 +157,7 @@ pub record AreWithin (n : ℕ) (r : Reading) : Type 0 where
   pub second : IsBelow n r.second
   pub third : IsBelow n r.third
   pub trace : IsBelow n r.trace
+  pub cert : IsBelow n r.cert
   pub k : IsUpTo 16 r.k
   pub workers : IsUpTo 64 r.workers
 
@@ -157,6 +165,7 @@ pub record IsCheckOf (n : ℕ) (c : Check) : Type 0 where
   pub left : c.left < n
   pub right : c.right < n
   pub trace : IsBelow n c.trace
+  pub cert : IsBelow n c.cert
   pub some : 0 < c.k
   pub few : c.k ≤ 16
 

@@ -6,13 +6,14 @@ ghost use Rattle.class_partition.specs.Classes.{ArePartition, AreOfGreatest};
 ghost use Rattle.class_partition.specs.Laws.{PairOutput};
 ghost use Rattle.induction_base.specs.Least.{IsShown};
 ghost use Rattle.sec_cli.specs.Outputs.{AreLeftOut};
-ghost use Rattle.sec_cli.specs.Answers.{AreClassLines, IsCheckAnswer};
+ghost use Rattle.sec_cli.specs.Answers.{AreClassLines, IsCertOf, IsCheckAnswer};
 
 use crate::ending::Answer;
 use crate::lines::{different_line, equivalent_line, push_numbers, undecided_head};
 use crate::words::Check;
 use class_partition::Classes;
 use class_text::push_class_lines;
+use corr_certificate::write_cert;
 use induction_base::{Diff, least_difference};
 use product_machine::Product;
 use std::alloc::{AllocError, Global};
@@ -64,6 +65,8 @@ fn answer_by(
     requires partition { ArePartition (places_of product.now) classes.now }
     requires greatest { AreOfGreatest product.now c.now.k classes.now }
     requires agree { AgreeBelow product.now c.now.k }
+    requires some { 0 < c.now.k }
+    requires few { c.now.k ≤ 16 }
     ensures answer { IfOk result (IsCheckAnswer product.now c.now) }
     ensures status { IfOk result (λ a. a.status ≤ 2) }
 {
@@ -74,6 +77,27 @@ fn answer_by(
     } else {
         undecided(alloc, product, c, classes, outputs.as_slice())
     }
+}
+
+// The certificate where it is asked for.
+fn cert_of(
+    alloc: Global,
+    product: &Product,
+    c: &Check,
+    classes: &Classes,
+) -> Result<Vec<u8>, AllocError>
+    requires partition { ArePartition (places_of product.now) classes.now }
+    requires greatest { AreOfGreatest product.now c.now.k classes.now }
+    requires paired { (j : ℕ) → j < outputs_of product.now → PairOutput product.now classes.now j }
+    requires some { 0 < c.now.k }
+    requires few { c.now.k ≤ 16 }
+    ensures { IfOk result (λ file. IsCertOf product.now c.now file.items) }
+{
+    if c.cert.is_none() {
+        return Ok(Vec::new(alloc));
+    }
+    let file = write_cert(alloc, product, c.k, classes)?;
+    Ok(file)
 }
 
 // All outputs are paired.
@@ -87,16 +111,19 @@ fn equivalent(
     requires partition { ArePartition (places_of product.now) classes.now }
     requires greatest { AreOfGreatest product.now c.now.k classes.now }
     requires paired { (j : ℕ) → j < outputs_of product.now → PairOutput product.now classes.now j }
+    requires some { 0 < c.now.k }
+    requires few { c.now.k ≤ 16 }
     ensures answer { IfOk result (IsCheckAnswer product.now c.now) }
     ensures status { IfOk result (λ a. a.status ≤ 2) }
 {
     let line = equivalent_line(alloc, c.k, product.len(), classes.count())?;
     let mut text = Vec::from_slice(alloc, line.as_bytes())?;
     push_classes(alloc, product, c, classes, &mut text)?;
+    let file = cert_of(alloc, product, c, classes)?;
     Ok(Answer {
         status: 0,
         text,
-        trace: Vec::new(alloc),
+        file,
     })
 }
 
@@ -125,7 +152,7 @@ fn undecided(
     Ok(Answer {
         status: 2,
         text,
-        trace: Vec::new(alloc),
+        file: Vec::new(alloc),
     })
 }
 
@@ -142,7 +169,7 @@ fn different(alloc: Global, product: &Product, c: &Check, diff: &Diff) -> Result
     Ok(Answer {
         status: 1,
         text,
-        trace,
+        file: trace,
     })
 }
 

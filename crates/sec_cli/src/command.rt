@@ -233,7 +233,7 @@ fn perform<S: Shelf, O: Sink, E: Sink>(
 }
 
 /// One run of the program over these words, of which the first is its own name: `check LEFT RIGHT [-k K] [-j J] [--classes]
-/// [--trace FILE]`, `replay LEFT RIGHT TRACE`, `verify LEFT RIGHT CERT` or `demo N [-k K] [-j J]`. `check` decides by signal correspondence with k-induction (van Eijk, IEEE TCAD
+/// [--trace FILE] [--cert FILE]`, `replay LEFT RIGHT TRACE`, `verify LEFT RIGHT CERT` or `demo N [-k K] [-j J]`. `check` decides by signal correspondence with k-induction (van Eijk, IEEE TCAD
 /// 19(7), 2000; Sheeran, Singh, Stålmarck, FMCAD 2000) after a search for a difference in the first k frames; `replay` tells
 /// the first difference of a stored trace; `verify` reads a stored certificate, without solver or threads; `demo` checks a pair of any size that it makes itself.
 pub fn run<S: Shelf, O: Sink, E: Sink>(
@@ -272,7 +272,7 @@ pub fn run<S: Shelf, O: Sink, E: Sink>(
     ensures out_stays { 3 ≤ result.status → result.status ≢ 6 → O.taken out.new ≡ O.taken out.old }
     ensures err_stays { result.status ≤ 2 → E.taken err.new ≡ E.taken err.old }
     ensures names { result.status ≢ 5 → S.failed shelf.new ≡ S.failed shelf.old }
-    ensures files { result.status ≢ 1 → result.status ≢ 6 → S.file shelf.new ≡ S.file shelf.old }
+    ensures files { 2 ≤ result.status → result.status ≢ 6 → S.file shelf.new ≡ S.file shelf.old }
     ensures load_count { S.load_faults shelf.old ≤ S.load_faults shelf.new }
     ensures store_count { S.store_faults shelf.old ≤ S.store_faults shelf.new }
     ensures out_count { O.faults out.old ≤ O.faults out.new }

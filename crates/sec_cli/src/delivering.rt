@@ -1,4 +1,4 @@
-// What becomes of an answer: its trace is stored, where the command has a name for that, and then its text is printed.
+// What becomes of an answer: its file is stored, where the command has a name for that, and then its text is printed.
 ghost use Rattle.std.specs.Prelude.{◌≡◌, ◌≤◌, ◌⊎◌, Option, Some, length};
 ghost use Rattle.sec_base.specs.Faults.{Rose, appended, IsCutShort};
 ghost use Rattle.sec_cli.specs.Words.{texts, AreWordsOf};
@@ -28,7 +28,7 @@ fn print<O: Sink, E: Sink>(text: &[u8], status: u8, out: &mut O, err: &mut E) ->
     }
 }
 
-// Stores the trace of an answer under a name, and prints the text.
+// Stores the file of an answer under a name, and prints the text.
 fn store_and_print<S: Shelf, O: Sink, E: Sink>(
     answer: &Answer,
     name: &str,
@@ -46,7 +46,7 @@ fn store_and_print<S: Shelf, O: Sink, E: Sink>(
     ensures out_count { O.faults out.old ≤ O.faults out.new }
     ensures err_count { E.faults err.old ≤ E.faults err.new }
 {
-    match shelf.store(name, answer.trace.as_slice()) {
+    match shelf.store(name, answer.file.as_slice()) {
         Ok(()) => print(answer.text.as_slice(), answer.status, out, err),
         Err(StoreFault::Failed) => {
             tell_unstored(err, name.as_bytes());
@@ -59,17 +59,25 @@ fn store_and_print<S: Shelf, O: Sink, E: Sink>(
     }
 }
 
-// The place of the name under which a command stores the trace of an answer of this status.
+// The place of the name under which a command stores the file of an answer of this status.
 fn store_place(command: Command, status: u8) -> Option<usize>
     ensures { result ≡ store_place command status }
 {
     match command {
-        Command::Check(c) => if status == 1 { c.trace } else { None },
+        Command::Check(c) => {
+            if status == 1 {
+                c.trace
+            } else if status == 0 {
+                c.cert
+            } else {
+                None
+            }
+        }
         Command::Replay(_) | Command::Verify(_) | Command::Demo(_) => None,
     }
 }
 
-/// Stores the trace of an answer, where the command has a name for it, and prints the text. Answers the status of the run.
+/// Stores the file of an answer, where the command has a name for it, and prints the text. Answers the status of the run.
 pub(crate) fn deliver<S: Shelf, O: Sink, E: Sink>(
     words: &[String],
     command: Command,

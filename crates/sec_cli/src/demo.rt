@@ -39,15 +39,12 @@ pub(crate) fn demo_answer(alloc: Global, d: &Demo) -> Result<Answer, AllocError>
         workers: d.workers,
         classes: false,
         trace: None,
+        cert: None,
     };
     let line = demo_line(alloc, d.n)?;
     let mut text = Vec::from_slice(alloc, line.as_bytes())?;
     let answer = check_pair(alloc, &product, &check)?;
     text.extend_from_slice(answer.text.as_slice())?;
-    let Answer { status, trace, .. } = answer;
-    Ok(Answer {
-        status,
-        text,
-        trace,
-    })
+    let Answer { status, file, .. } = answer;
+    Ok(Answer { status, text, file })
 }

@@ -41,8 +41,8 @@ pub struct Answer {
     pub status: u8,
     /// The text that is printed.
     pub text: Vec<u8>,
-    /// The part of it that is stored on request: a trace, where the verdict is a difference.
-    pub trace: Vec<u8>,
+    /// What is stored on request: the trace in it, where the verdict is a difference, or the certificate of an equivalence.
+    pub file: Vec<u8>,
 }
 
 /// Why a run answers nothing.

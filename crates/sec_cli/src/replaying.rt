@@ -29,7 +29,7 @@ fn answer_of(alloc: Global, product: &Product, run: &Path) -> Result<Answer, All
     Ok(Answer {
         status,
         text,
-        trace: Vec::new(alloc),
+        file: Vec::new(alloc),
     })
 }
 

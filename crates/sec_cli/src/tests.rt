@@ -407,6 +407,10 @@ fn words_that_are_no_command(rt: HostRuntime) -> Result<(), Fail> {
         "sec replay left right trace -k 1",
         "sec verify left right",
         "sec verify left right trace -k 1",
+        "sec check left right --cert",
+        "sec check left right --cert a --cert b",
+        "sec verify left right trace --cert a",
+        "sec demo 1 --cert a",
         "sec proof left right",
         "sec demo",
         "sec demo 01",
@@ -719,5 +723,80 @@ fn certificates_are_verified(rt: HostRuntime) -> Result<(), Fail> {
     let none = "sec verify left right none";
     let unread = case(none, TOGGLE, TOGGLE, 5, "", "sec: none: read failed\n");
     assert!(rt; answers_so(alloc, &unread)?);
+    Ok(())
+}
+
+// Whether a run over this shelf answers as the row has it.
+fn answers_on(alloc: Global, row: &Row, shelf: &mut MemShelf) -> Result<bool, AllocError> {
+    let words = words_of(alloc, row.words)?;
+    let Ok(mut out) = MemSink::with_room(alloc, 400, Vec::new(alloc)) else {
+        return Ok(false);
+    };
+    let Ok(mut err) = MemSink::with_room(alloc, 400, Vec::new(alloc)) else {
+        return Ok(false);
+    };
+    let report = run(alloc, &words, shelf, &mut out, &mut err);
+    Ok(
+        report.status == row.status
+            && out.bytes() == row.out.as_bytes()
+            && err.bytes() == row.err.as_bytes(),
+    )
+}
+
+// Whether one run stores what the next one finds without a fault.
+fn stores_what_verifies(alloc: Global, made: &Row, verified: &Row) -> Result<bool, AllocError> {
+    let Some(mut shelf) = run_so(alloc, made, Vec::new(alloc), Vec::new(alloc))? else {
+        return Ok(false);
+    };
+    answers_on(alloc, verified, &mut shelf)
+}
+
+// Whether there is a shelf, and nothing under a name on it.
+fn lacks(shelf: &Option<MemShelf>, name: &str) -> bool {
+    match shelf {
+        Some(shelf) => shelf.get(name).is_none(),
+        None => false,
+    }
+}
+
+#[test]
+fn certificates_are_stored_of_equivalent_pairs(rt: HostRuntime) -> Result<(), Fail> {
+    let alloc = rt.alloc();
+    let words = "sec check left right --cert made --trace other";
+    let two = "equivalent k=1 signals=3 classes=2\n";
+    let made = case(words, TOGGLE, TOGGLE, 0, two, "");
+    let verified = case(
+        "sec verify left right made",
+        TOGGLE,
+        TOGGLE,
+        0,
+        "verified\n",
+        "",
+    );
+    assert!(rt; stores_what_verifies(alloc, &made, &verified)?);
+    let shelf = run_so(alloc, &made, Vec::new(alloc), Vec::new(alloc))?;
+    assert!(rt; lacks(&shelf, "other"));
+    let open = "undecided k=1 signals=2 classes=2 unpaired=0\n";
+    let shelf = run_so(
+        alloc,
+        &case(words, TOGGLE, LOW, 2, open, ""),
+        Vec::new(alloc),
+        Vec::new(alloc),
+    )?;
+    assert!(rt; lacks(&shelf, "made"));
+    assert!(rt; lacks(&shelf, "other"));
+    let deep = "sec check left right -k 2 --cert made --trace other";
+    let text = "different k=2 frame=1 output=0\n1\nb0\n0\n\n\n.\n";
+    let shelf = run_so(
+        alloc,
+        &case(deep, TOGGLE, LOW, 1, text, ""),
+        Vec::new(alloc),
+        Vec::new(alloc),
+    )?;
+    assert!(rt; lacks(&shelf, "made"));
+    assert!(rt; holds(&shelf, "other", b"1\nb0\n0\n\n\n.\n"));
+    let unstored = case(words, TOGGLE, TOGGLE, 6, "", "sec: made: write failed\n");
+    let shelf = run_so(alloc, &unstored, vec![in alloc; 2]?, Vec::new(alloc))?;
+    assert!(rt; shelf.is_some());
     Ok(())
 }

@@ -20,7 +20,7 @@ fn verified(alloc: Global) -> Result<Answer, AllocError>
     Ok(Answer {
         status: 0,
         text,
-        trace: Vec::new(alloc),
+        file: Vec::new(alloc),
     })
 }
 

@@ -1,6 +1,6 @@
 // The words of a run: which command they are, with which files and options.
 ghost use Rattle.std.specs.Prelude.{◌≡◌, ◌≤◌, ◌<◌, ℕ, List, drop, length, IfSome, Some};
-ghost use Rattle.sec_cli.specs.Words.{is_name, leads_zero, texts, number_of, none_read, step, named, word_read, flag_read, read_all, check_of, replay_of, has_options, verify_of, size_of, demo_of, command_of, AreWithin, AreWordsOf, IsUpTo};
+ghost use Rattle.sec_cli.specs.Words.{is_name, leads_zero, texts, number_of, none_read, step, named, word_read, store_read, flag_read, read_all, check_of, replay_of, has_options, verify_of, size_of, demo_of, command_of, AreWithin, AreWordsOf, IsUpTo};
 
 use aiger_codec::read_number;
 
@@ -17,6 +17,8 @@ pub struct Check {
     pub classes: bool,
     /// Where a trace is stored.
     pub trace: Option<usize>,
+    /// Where a certificate is stored.
+    pub cert: Option<usize>,
 }
 
 /// The words of `replay`, likewise.
@@ -62,6 +64,7 @@ pub enum Waiting {
     Depth,
     Workers,
     Trace,
+    Cert,
 }
 
 /// What the words so far say: three names at most, by their places, and each option at most once.
@@ -74,6 +77,7 @@ pub struct Reading {
     pub workers: Option<u32>,
     pub classes: bool,
     pub trace: Option<usize>,
+    pub cert: Option<usize>,
     pub waiting: Waiting,
 }
 
@@ -153,6 +157,34 @@ fn flag_read(r: Reading, at: usize, word: &[u8]) -> Option<Reading>
     }
 }
 
+// An option whose value is the name of a file that is stored, a flag or a name.
+fn store_read(r: Reading, at: usize, word: &[u8]) -> Option<Reading>
+    ensures read { result ≡ store_read r at word.now }
+    ensures within { (n : ℕ) → at < n → AreWithin n r → IfSome result (AreWithin n) }
+{
+    if word == b"--trace".as_slice() {
+        if r.trace.is_some() {
+            None
+        } else {
+            Some(Reading {
+                waiting: Waiting::Trace,
+                ..r
+            })
+        }
+    } else if word == b"--cert".as_slice() {
+        if r.cert.is_some() {
+            None
+        } else {
+            Some(Reading {
+                waiting: Waiting::Cert,
+                ..r
+            })
+        }
+    } else {
+        flag_read(r, at, word)
+    }
+}
+
 // A word where no value is due.
 fn word_read(r: Reading, at: usize, word: &[u8]) -> Option<Reading>
     ensures read { result ≡ word_read r at word.now }
@@ -176,17 +208,8 @@ fn word_read(r: Reading, at: usize, word: &[u8]) -> Option<Reading>
                 ..r
             })
         }
-    } else if word == b"--trace".as_slice() {
-        if r.trace.is_some() {
-            None
-        } else {
-            Some(Reading {
-                waiting: Waiting::Trace,
-                ..r
-            })
-        }
     } else {
-        flag_read(r, at, word)
+        store_read(r, at, word)
     }
 }
 
@@ -224,6 +247,17 @@ fn step(r: Reading, at: usize, word: &[u8]) -> Option<Reading>
                 None
             }
         }
+        Waiting::Cert => {
+            if is_name(word) {
+                Some(Reading {
+                    cert: Some(at),
+                    waiting: Waiting::Nothing,
+                    ..r
+                })
+            } else {
+                None
+            }
+        }
     }
 }
 
@@ -241,6 +275,7 @@ fn read_all(words: &[String]) -> Option<Reading>
         workers: None,
         classes: false,
         trace: None,
+        cert: None,
         waiting: Waiting::Nothing,
     };
     for at in 2..words.len() {
@@ -261,6 +296,7 @@ fn check_of(r: Reading) -> Option<Command>
             workers: r.workers.unwrap_or(1),
             classes: r.classes,
             trace: r.trace,
+            cert: r.cert,
         })),
         _ => None,
     }
@@ -270,7 +306,7 @@ fn check_of(r: Reading) -> Option<Command>
 fn has_options(r: Reading) -> bool
     ensures { result ≡ has_options r }
 {
-    r.k.is_some() || r.workers.is_some() || r.classes || r.trace.is_some()
+    r.k.is_some() || r.workers.is_some() || r.classes || r.trace.is_some() || r.cert.is_some()
 }
 
 fn replay_of(r: Reading) -> Option<Command>
@@ -321,7 +357,7 @@ fn demo_of(words: &[String], r: Reading) -> Option<Command>
     ensures command { result ≡ demo_of (texts words.now) (Some r) }
     ensures within { IfSome result (AreWordsOf (length words.now)) }
 {
-    if r.classes || r.trace.is_some() {
+    if r.classes || r.trace.is_some() || r.cert.is_some() {
         return None;
     }
     match (r.first, r.second, r.third, r.waiting) {

@@ -12,4 +12,4 @@ returns-clause-answer c =
     let (lines, are, text) = c.in_ok-push_classes.ensures in
     let count = c.count.ensures ∙ ap (λ (n : ℕ). class_count n classes) c.requires.partition.least_len in
     let line = c.in_ok-text.ensures.items ∙ c.as_bytes.ensures.value ∙ c.in_ok-line.ensures ∙ ap₂ (equivalent_line k) c.len.ensures.places count in
-    equivalent_answer pair c.args.c.now classes _ _ lines c.requires.sound c.requires.partition c.requires.greatest c.requires.paired are (text ∙ ap (λ (xs : List ℕ). xs ++ lines) line)
+    equivalent_answer pair c.args.c.now classes _ _ lines c.requires.sound c.requires.partition c.requires.greatest c.requires.paired c.in_ok-file.ensures are (text ∙ ap (λ (xs : List ℕ). xs ++ lines) line)
