@@ -6,3 +6,4 @@ pub mod Verdicts
 pub mod Pairing
 pub mod Trying
 pub mod Unfailing
+pub mod Storing
