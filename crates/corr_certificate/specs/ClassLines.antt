@@ -16,7 +16,7 @@ pub record Joining : Type 0 where
 abbrev pub none_joined : ℕ → Joining
 none_joined places = record { classes = record { least = range_with_len 0 places; phase = replicate places false }; next = 0 }
 
--- a name's place, and whether `!` stands before it
+-- a name's place, and whether `!` (33) stands before it
 abbrev pub with_sign : Bool → Option ℕ → Option (ℕ × Bool)
 with_sign sign None = None
 with_sign sign (Some p) = Some (p, sign)
@@ -37,7 +37,7 @@ abbrev pub and_join : Option Joining → (Joining → Option Joining) → Option
 and_join None more = None
 and_join (Some j) more = more j
 
--- the members after the first, as words and the last word
+-- the members after the first, as words that a space (32) ends and the last word
 unfoldable pub members_from : Pair → ℕ → Joining → List (List ℕ) → List ℕ → Option Joining
 members_from pair first j [] last = joined first j (member_of pair last)
 members_from pair first j (w ∷ ws) last = and_join (joined first j (member_of pair w)) (λ i. members_from pair first i ws last)

@@ -12,7 +12,7 @@ use Rattle.product_machine.specs.Cells.{signals}
 abbrev pub stripped : List ℕ → List ℕ → Option (List ℕ)
 stripped prefix text = if bytes_eq (take (length prefix) text) prefix then Some (drop (length prefix) text) else None
 
--- the number that is all of a word, in decimal without leading zeros; past 4294967295 it counts as that
+-- the number that is all of a word, in decimal without leading zeros; past 4294967295 it counts as that (48 is `0`)
 abbrev pub whole_number : List ℕ → Option (ℕ × ℕ) → Option ℕ
 whole_number word None = None
 whole_number word (Some n) = if (n.1 == length word) && (not (slice_index word 0 == 48) || (length word == 1)) then Some n.0 else None
@@ -20,6 +20,7 @@ whole_number word (Some n) = if (n.1 == length word) && (not (slice_index word 0
 abbrev pub number_of : List ℕ → Option ℕ
 number_of word = whole_number word (number_at word 0)
 
+-- a letter, `i` (105), `l` (108) or `r` (114), and a number
 abbrev pub lettered : ℕ → Option ℕ → Option Signal
 lettered letter None = None
 lettered letter (Some n) =

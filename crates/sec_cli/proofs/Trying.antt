@@ -1,18 +1,17 @@
 -- Trying all paths of two rows: what the rows are, what a split keeps, and what nothing split means.
-use Rattle.std.proofs.Common.{◌≡◌, ◌∙◌, ◌==◌, ◌<◌, ◌+◌, ◌/◌, ◌%◌, ◌^◌, ℕ, zero, suc, List, [], ◌∷◌, length, map, take, drop, Bool, false, replicate, zero-add, set, refl, ap, ap₂, sym, subst, arith, slice_index_or, ⊎_elim, length-take, length-drop, length-append}
+use Rattle.std.proofs.Common.{◌≡◌, ◌∙◌, ◌==◌, ◌<◌, ◌+◌, ◌/◌, ◌%◌, ◌^◌, ℕ, zero, suc, List, [], ◌∷◌, length, map, take, drop, Bool, false, replicate, zero-add, refl, ap, ap₂, sym, subst, arith, slice_index_or, length-take, length-drop, length-append}
 use Rattle.std.proofs.Math.Nat.{div-div-eq-div-mul, pow-succ'}
 use Rattle.std.specs.Int.{bit_at}
-use Rattle.std.proofs.lemmas.List.{length-map, get_or-map, get_or-take, get_or-drop, ext_get_or, get_or-set_same, get_or-set_other}
+use Rattle.std.proofs.lemmas.List.{length-map, get_or-map, get_or-take, get_or-drop, ext_get_or}
 use Rattle.std.proofs.lemmas.List.Elements.{All-cons, All-nil}
-use Rattle.std.proofs.lemmas.Bool.{cases_eq}
 use Rattle.circ_model.specs.declared.netlist.Latch.{Latch}
 use Rattle.circ_model.specs.declared.netlist.Reset.TheVariants.{Free}
 use Rattle.circ_model.specs.Meaning.{Pair, Path, IsPath, IsRun, IsInputRow, bit, latches_of, places_of, resets, inputs_at, state_at, row_at, row, next_state}
 use Rattle.circ_model.specs.Runs.{first_bit, phases, path_of_bits, bits_of}
 use Rattle.circ_model.specs.Correspondence.{MaySplit, MaySplit.OfRun}
 use Rattle.circ_model.proofs.Enumerate.{every_path, every_bits, spelled_is_path}
-use Rattle.class_partition.specs.Classes.{Classes, ArePartition, AreOfGreatest, HoldIn, IsStable, KeepsGreatest, least_of, relative, IsSplit, one_class}
-use Rattle.class_partition.proofs.Partition.{needed_from_relative, relative_from_needed, split_keeps, exact, passes_from_stable, may_split_after, one_class_keeps}
+use Rattle.class_partition.specs.Classes.{Classes, ArePartition, AreOfGreatest, HoldIn, IsStable, KeepsGreatest, IsSplit, one_class}
+use Rattle.class_partition.proofs.Partition.{split_keeps, exact, passes_from_stable, may_split_after, one_class_keeps}
 use Rattle.circ_model.proofs.Greatest.{may_split_agrees}
 use Rattle.sec_cli.specs.Plain.{free_bits, numbered_path, StartsRun, LeavesWhole}
 
