@@ -1,5 +1,5 @@
-// Splitting classes by words, in one pass over the places. The places of a class whose words equal that of its first place
-// keep the class; each further word makes a part, which begins at the first place that has it.
+//! Splitting classes by words, in one pass over the places. The places of a class whose words equal that of its first place
+//! keep the class; each further word makes a part, which begins at the first place that has it.
 ghost use Rattle.std.specs.Prelude.{◌≡◌, ◌==◌, ◌&&◌, not, ◌<◌, ◌+◌, ◌^◌, ℕ, [], length, IfOk, OnOk, Some, unwrap_or, if◌then◌else◌, slice_index};
 ghost use Rattle.indexmap.specs.IndexMap.{get};
 ghost use Rattle.class_partition.specs.Classes.{ArePartition, class_count, is_least};
