@@ -1,5 +1,5 @@
 -- The opening, frame by frame.
-use Rattle.std.proofs.Common.{◌≡◌, ◌∙◌, ◌<◌, ◌≤◌, ◌+◌, ◌*◌, ◌⊎◌, ℕ, zero, suc, Bool, true, false, List, [], ◌∷◌, ◌++◌, Option, None, Some, length, map, replicate, slice_index, slice_index_or, refl, ap, ap₂, sym, subst, arith, inl, inr, ⊎_elim, MatchBool, count_by, cond}
+use Rattle.std.proofs.Common.{◌≡◌, ◌∙◌, ◌<◌, ◌≤◌, ◌+◌, ◌*◌, ℕ, zero, suc, Bool, true, false, List, [], ◌∷◌, ◌++◌, None, Some, length, map, replicate, slice_index, refl, ap, ap₂, sym, subst, arith, ⊎_elim, MatchBool, cond}
 use Rattle.std.specs.List.{range_with_len}
 use Rattle.std.proofs.lemmas.Bool.{cases_lt}
 use Rattle.std.proofs.lemmas.List.{length-replicate, length_push, get_or_push, get_or_append_left, ext_get_or}
@@ -9,11 +9,11 @@ use Rattle.rand_core.specs.Pcg32Seed.{pcg32_seed}
 use Rattle.rand_core.specs.Steps.{first_words}
 use Rattle.rand_pcg.specs.Lcg.{Lcg}
 use Rattle.rand_pcg.specs.Pcg.{pcg64, pcg64_of_seed}
-use Rattle.circ_model.specs.Meaning.{Pair, Path, bit, signed, inputs_at, latches_of, next_state, places_of, row, row_at, state_at}
+use Rattle.circ_model.specs.Meaning.{Pair, bit, signed, inputs_at, latches_of, next_state, places_of, row, row_at, state_at}
 use Rattle.circ_model.specs.Runs.{phases, quiet_run}
 use Rattle.circ_model.proofs.Paths.{state_start, state_next}
 use Rattle.circ_model.proofs.Rows.{length_row}
-use Rattle.class_partition.specs.Classes.{Classes, ArePartition, AreTogether, class_count, one_class, relative}
+use Rattle.class_partition.specs.Classes.{Classes, ArePartition, class_count, one_class, relative}
 use Rattle.class_partition.specs.Words.{rows_of, splits_of}
 use Rattle.class_partition.proofs.Finer.{AreFiner, still_together, two_apart}
 use Rattle.class_partition.proofs.WordRows.{AreSplitByRows, HaveEqualBits}
