@@ -1,6 +1,6 @@
 //! Logs without the lines that their last line doesn't reach through hints. A solver logs each clause that it learns, and most
 //! of them serve the search alone. Lines are marked backward from the last one, then those that are marked are copied with
-//! new numbers. (Backward trimming of derivations: Wetzler, Heule, Hunt, SAT 2014; of LRAT: lrat-trim.)
+//! new numbers. (Trimming backward: Wetzler, Heule, Hunt, SAT 2014; of LRAT: Pollitt, Fleury, Biere, SAT 2023.)
 ghost use Rattle.std.specs.Prelude.{◌≡◌, ◌<◌, ◌≤◌, ◌+◌, ◌++◌, ◌∷◌, [], ℕ, true, false, length, map, slice_index, IfOk, OnOk};
 ghost use Rattle.std.specs.List.{All};
 ghost use Rattle.cnf_store.specs.Clauses.{Formula};
