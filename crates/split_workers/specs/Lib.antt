@@ -1,0 +1,4 @@
+pub mod Tallies
+pub mod Seats
+pub mod Desks
+pub mod Refined
