@@ -175,7 +175,7 @@ impl<'p, L: Run, E: Ledger, O: Ledger> Room<'p, L, E, O> {
         requires asked { IsAsked prover.now offer.pair }
         requires product { prover.now.pair ≡ L.pair }
         requires k { prover.now.k ≡ L.k }
-        ensures seat { (seat.new.party ≡ seat.old.party) × (seat.new.ended ≡ seat.old.ended) }
+        ensures seat { result ≡ true → (seat.new.party ≡ seat.old.party) × (seat.new.ended ≡ seat.old.ended) }
         ensures held { result ≡ true → AreHeld seat.old.party pocket.new.items × (seat.new.owed ≡ length pocket.new.items) }
     {
         gate.works(seat.party(), last_call(*call));
