@@ -71,7 +71,7 @@ fn refine_named<
             requires party { seat.party < L.workers }
             requires fresh { (seat.ended ≡ 0) × (seat.owed ≡ 0) }
             requires opening { (opening.now.pair ≡ L.pair) × (opening.now.k ≡ L.k) }
-            ensures { IfSome result (HasEnded seat.entry.party) }
+            ensures { IfSome result (HasEnded seat.party) }
         {
             work(rt, alloc, shared, gate, seat, opening)
         },

@@ -1,6 +1,6 @@
 //! A worker: it asks for a pair, proves it outside the lock and answers, until each pair is counted or memory runs out.
 //! Pairs that it finds apart it answers together, since each split opens all pairs again.
-ghost use Rattle.std.specs.Prelude.{◌≡◌, ◌<◌, ◌+◌, [], true, IfOk, IfSome, length};
+ghost use Rattle.std.specs.Prelude.{◌≡◌, ◌≢◌, ◌<◌, ◌+◌, [], IfOk, IfSome, length};
 ghost use Rattle.refine_board.specs.Running.{IsAbout, IsAsked};
 ghost use Rattle.split_workers.specs.Seats.{HasEnded, HaveEnded, OwesLess, AreHeld};
 ghost use Rattle.split_workers.specs.Desks.{IsAskedOf, IsOutcome};
@@ -141,14 +141,15 @@ impl<'p, L: Run, E: Ledger, O: Ledger> Room<'p, L, E, O> {
         &self,
         rt: &impl Wait,
         gate: &G,
+        party: u32,
         call: &mut u64,
         seat: &mut Seat<E, O>,
         pocket: &mut Vec<Found<'p, L>>,
     )
-        requires party { seat.old.party < L.workers }
-        requires held { AreHeld seat.old.party pocket.old.items }
-        requires owed { seat.old.owed ≡ length pocket.old.items }
-        ensures seat { (seat.new.party ≡ seat.old.party) × (seat.new.ended ≡ seat.old.ended) × (seat.new.owed ≡ 0) }
+        requires party { party < L.workers }
+        requires seat { (seat.old.party ≡ party) × (seat.old.owed ≡ length pocket.old.items) }
+        requires held { AreHeld party pocket.old.items }
+        ensures seat { (seat.new.party ≡ party) × (seat.new.ended ≡ seat.old.ended) × (seat.new.owed ≡ 0) }
         ensures pocket { pocket.new.items ≡ [] }
     {
         while let Some(found) = pocket.pop() {
@@ -156,43 +157,136 @@ impl<'p, L: Run, E: Ledger, O: Ledger> Room<'p, L, E, O> {
         }
     }
 
-    // Proves an offered pair. Answers that it holds at once; a vector that separates it goes into the pocket. Says whether
-    // there was memory for it.
+    // Proves an offered pair. Answers that it holds at once; a vector that separates it goes into the pocket.
     fn prove<G: Gate>(
         &self,
         rt: &impl Wait,
         alloc: Global,
         gate: &G,
+        party: u32,
         call: &mut u64,
         prover: &Prover<'p>,
         seat: &mut Seat<E, O>,
         pocket: &mut Vec<Found<'p, L>>,
         offer: Offer<L>,
-    ) -> bool
-        requires party { (offer.party ≡ seat.old.party) × (seat.old.party < L.workers) }
-        requires held { AreHeld seat.old.party pocket.old.items }
-        requires owed { seat.old.owed ≡ length pocket.old.items + 1 }
+    ) -> Turn
+        requires party { (offer.party ≡ party) × (party < L.workers) }
+        requires seat { (seat.old.party ≡ party) × (seat.old.ended ≡ 0) × (seat.old.owed ≡ length pocket.old.items + 1) }
+        requires held { AreHeld party pocket.old.items }
         requires asked { IsAsked prover.now offer.pair }
         requires product { prover.now.pair ≡ L.pair }
         requires k { prover.now.k ≡ L.k }
-        ensures seat { result ≡ true → (seat.new.party ≡ seat.old.party) × (seat.new.ended ≡ seat.old.ended) }
-        ensures held { result ≡ true → AreHeld seat.old.party pocket.new.items × (seat.new.owed ≡ length pocket.new.items) }
+        ensures going { result ≢ Turn.Ended }
+        ensures seat { result ≡ Turn.On → (seat.new.party ≡ party) × (seat.new.ended ≡ 0) × (seat.new.owed ≡ length pocket.new.items) }
+        ensures held { result ≡ Turn.On → AreHeld party pocket.new.items }
     {
-        gate.works(seat.party(), last_call(*call));
+        gate.works(party, last_call(*call));
         if pocket.reserve(1).is_err() {
             self.give_back(rt, seat, offer);
-            return false;
+            return Turn::Stopped;
         }
         match prover.prove(alloc, offer.pair()) {
             Ok(Proof::Holds(verdict)) => self.keep(rt, gate, next_call(call), seat, offer, &verdict),
             Ok(Proof::Splits(vector)) => pocket.push_reserved(Found { offer, vector }),
             Err(_) => {
                 self.give_back(rt, seat, offer);
-                return false;
+                return Turn::Stopped;
             }
         }
-        true
+        Turn::On
     }
+
+    // Proves an offered pair of another version.
+    fn prove_anew<G: Gate>(
+        &self,
+        rt: &impl Wait,
+        alloc: Global,
+        gate: &G,
+        party: u32,
+        call: &mut u64,
+        prover: &mut Prover<'p>,
+        seat: &mut Seat<E, O>,
+        pocket: &mut Vec<Found<'p, L>>,
+        offer: Offer<L>,
+        version: Version<'p>,
+    ) -> Turn
+        requires party { (offer.party ≡ party) × (party < L.workers) }
+        requires seat { (seat.old.party ≡ party) × (seat.old.ended ≡ 0) × (seat.old.owed ≡ length pocket.old.items + 1) }
+        requires held { AreHeld party pocket.old.items }
+        requires asked { IsAsked version offer.pair }
+        requires product { version.pair ≡ L.pair }
+        requires k { version.k ≡ L.k }
+        ensures going { result ≢ Turn.Ended }
+        ensures prover { result ≡ Turn.On → prover.new ≡ version.entry }
+        ensures seat { result ≡ Turn.On → (seat.new.party ≡ party) × (seat.new.ended ≡ 0) × (seat.new.owed ≡ length pocket.new.items) }
+        ensures held { result ≡ Turn.On → AreHeld party pocket.new.items }
+    {
+        match Prover::new(alloc, version) {
+            Ok(anew) => {
+                *prover = anew;
+                self.prove(rt, alloc, gate, party, call, prover, seat, pocket, offer)
+            }
+            Err(_) => {
+                self.give_back(rt, seat, offer);
+                Turn::Stopped
+            }
+        }
+    }
+
+    // Asks once, and does what is asked. Offers that it holds it hands in when it finds no open pair, or the board has
+    // another version.
+    fn turn<G: Gate>(
+        &self,
+        rt: &impl Wait,
+        alloc: Global,
+        gate: &G,
+        party: u32,
+        call: &mut u64,
+        prover: &mut Prover<'p>,
+        seat: &mut Seat<E, O>,
+        pocket: &mut Vec<Found<'p, L>>,
+    ) -> Turn
+        requires party { party < L.workers }
+        requires seat { (seat.old.party ≡ party) × (seat.old.ended ≡ 0) × (seat.old.owed ≡ length pocket.old.items) }
+        requires held { AreHeld party pocket.old.items }
+        requires product { prover.old.pair ≡ L.pair }
+        requires k { prover.old.k ≡ L.k }
+        ensures prover { result ≡ Turn.On → (prover.new.pair ≡ L.pair) × (prover.new.k ≡ L.k) }
+        ensures seat { result ≡ Turn.On → (seat.new.party ≡ party) × (seat.new.ended ≡ 0) × (seat.new.owed ≡ length pocket.new.items) }
+        ensures held { result ≡ Turn.On → AreHeld party pocket.new.items }
+        ensures ended { result ≡ Turn.Ended → HasEnded party seat.new }
+    {
+        let number = next_call(call);
+        let holding = pocket.len() > 0;
+        match self.ask(rt, alloc, gate, number, seat, prover.version(), holding) {
+            Asked::Work(offer) => {
+                self.prove(rt, alloc, gate, party, call, prover, seat, pocket, offer)
+            }
+            Asked::Anew(offer, version) => {
+                self.prove_anew(rt, alloc, gate, party, call, prover, seat, pocket, offer, version)
+            }
+            Asked::Idle | Asked::Moved => {
+                self.hand_in(rt, gate, party, call, seat, pocket);
+                Turn::On
+            }
+            Asked::Ended => {
+                self.hand_in(rt, gate, party, call, seat, pocket);
+                Turn::Ended
+            }
+            Asked::Stopped => Turn::Stopped,
+        }
+    }
+}
+
+// What a worker does next.
+#[derive(Clone, Copy, PartialEq, Eq)]
+enum Turn {
+    /// It asks again.
+    On,
+    /// It ends, since each pair is counted.
+    Ended,
+    /// It ends for want of memory.
+    Stopped,
 }
 
 // The number of the next call; it stays where it is the greatest.
@@ -220,8 +314,7 @@ fn prover_of<'p>(alloc: Global, version: &Version<'p>) -> Result<Prover<'p>, All
 }
 
 /// Works until the end, and gives the seat back where the worker was told that each pair is counted; nothing where memory
-/// ran out. The worker holds the offers whose pairs were found apart, with their vectors, while it finds open pairs under its
-/// version, and hands them in when it finds none, or the board has another version.
+/// ran out.
 pub(crate) fn work<'p, L: Run, E: Ledger, O: Ledger, G: Gate>(
     rt: &impl Wait,
     alloc: Global,
@@ -234,48 +327,24 @@ pub(crate) fn work<'p, L: Run, E: Ledger, O: Ledger, G: Gate>(
     requires fresh { (seat.ended ≡ 0) × (seat.owed ≡ 0) }
     requires product { first.now.pair ≡ L.pair }
     requires k { first.now.k ≡ L.k }
-    ensures { IfSome result (HasEnded seat.entry.party) }
+    ensures { IfSome result (HasEnded seat.party) }
 {
     let Ok(mut prover) = prover_of(alloc, first) else {
         room.stop(rt);
         return None;
     };
+    let party = seat.party();
     let mut seat = seat;
     let mut pocket = Vec::new(alloc);
     let mut call: u64 = 0;
     for _turn in rt.forever() {
-        let holding = pocket.len() > 0;
-        let number = next_call(&mut call);
-        let version = prover.version();
-        let going = match room.ask(rt, alloc, gate, number, &mut seat, version, holding) {
-            Asked::Work(offer) => {
-                room.prove(rt, alloc, gate, &mut call, &prover, &mut seat, &mut pocket, offer)
-            }
-            Asked::Anew(offer, version) => match Prover::new(alloc, version) {
-                Ok(anew) => {
-                    prover = anew;
-                    room.prove(rt, alloc, gate, &mut call, &prover, &mut seat, &mut pocket, offer)
-                }
-                Err(_) => {
-                    room.give_back(rt, &mut seat, offer);
-                    false
-                }
-            },
-            Asked::Idle | Asked::Moved => {
-                room.hand_in(rt, gate, &mut call, &mut seat, &mut pocket);
-                true
-            }
-            Asked::Ended => {
-                room.hand_in(rt, gate, &mut call, &mut seat, &mut pocket);
-                return Some(seat);
-            }
-            Asked::Stopped => false,
-        };
-        if !going {
-            return None;
+        match room.turn(rt, alloc, gate, party, &mut call, &mut prover, &mut seat, &mut pocket) {
+            Turn::On => {}
+            Turn::Ended => return Some(seat),
+            Turn::Stopped => return None,
         }
-        if is_full(&pocket, prover.version().classes().len()) {
-            room.hand_in(rt, gate, &mut call, &mut seat, &mut pocket);
+        if is_full(&pocket, first.classes().len()) {
+            room.hand_in(rt, gate, party, &mut call, &mut seat, &mut pocket);
         }
     }
     unreachable!()
