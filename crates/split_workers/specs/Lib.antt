@@ -2,3 +2,4 @@ pub mod Tallies
 pub mod Seats
 pub mod Desks
 pub mod Refined
+pub mod Reports

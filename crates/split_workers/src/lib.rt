@@ -4,10 +4,12 @@
 
 mod desk;
 mod found;
+mod report;
 mod running;
 mod seat;
 #[cfg(test)]
 mod tests;
 mod worker;
 
+pub use report::{WorkReport, reports_of};
 pub use running::{Refined, refine};

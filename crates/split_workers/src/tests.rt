@@ -1,7 +1,7 @@
 //! Runs of several workers: two that have to meet, and the same classes for each number of workers.
 ghost use Rattle.std.specs.Prelude.{◌≡◌, ◌≤◌, ◌<◌, IfOk};
 
-use crate::{Refined, refine};
+use crate::{Refined, WorkReport, refine, reports_of};
 use aig_graph::{BuildFault, NetBuilder, Netlist};
 use circ_model::Lit;
 use product_machine::{PairFault, Product};
@@ -135,6 +135,23 @@ fn ends_of(journal: &Journal, worker: u32) -> u64 {
     ends
 }
 
+// How many entries a report counts.
+fn entries_in(report: &WorkReport) -> u64 {
+    [
+        report.offers,
+        report.idle,
+        report.done,
+        report.counted,
+        report.stale,
+        report.splits,
+        report.already,
+        report.foreign,
+        report.back,
+    ]
+    .iter()
+    .fold(0u64, |sum, n| sum.saturating_add(*n))
+}
+
 #[test]
 fn two_workers_meet(rt: HostRuntime) -> Result<(), Fail> {
     let alloc = rt.alloc();
@@ -164,5 +181,24 @@ fn any_number_of_workers_ends_at_the_same_classes(rt: HostRuntime) -> Result<(),
             assert!(rt; ends_of(&run.journal, worker) == 1);
         }
     }
+    Ok(())
+}
+
+#[test]
+fn reports_count_the_calls_of_each_worker(rt: HostRuntime) -> Result<(), Fail> {
+    let alloc = rt.alloc();
+    let Ok(product) = delays(alloc) else {
+        assert!(rt; false);
+        return Ok(());
+    };
+    let run = refine(&rt, alloc, &product, 1, 3, &FreeGate)?;
+    let reports = reports_of(alloc, &run.journal, 3)?;
+    assert!(rt; reports.len() == 3);
+    let mut entries: u64 = 0;
+    for (worker, report) in (0..3u32).zip(reports.iter()) {
+        assert!(rt; report.worker == worker && report.done == 1 && report.foreign == 0);
+        entries = entries.saturating_add(entries_in(report));
+    }
+    assert!(rt; entries == run.journal.len());
     Ok(())
 }
