@@ -1,5 +1,6 @@
 -- How many entries of each kind a worker has in a journal.
-use Rattle.std.specs.Prelude.{◌≡◌, ℕ, ◌+◌, ◌<◌, ◌==◌, ◌&&◌, List, Bool, true, false, count_by}
+use Rattle.std.specs.Prelude.{◌≡◌, ℕ, ◌+◌, ◌<◌, ◌==◌, ◌&&◌, List, map, Bool, true, false, count_by}
+use Rattle.std.specs.List.{range_with_len}
 use Rattle.refine_board.specs.declared.journal.Step.{Step}
 use Rattle.refine_board.specs.declared.journal.Step.TheVariants.{Idle, Counted, Stale, Already, Foreign}
 use Rattle.refine_board.specs.declared.journal.Entry.{Entry}
@@ -44,6 +45,10 @@ report_of entries worker = record {
   foreign = entries_of is_foreign entries worker;
   back = entries_of is_back entries worker;
 }
+
+-- a report for each of the first workers
+abbrev pub AreReports : ℕ → List Entry → List WorkReport → Type 0
+AreReports workers entries reports = reports ≡ map (report_of entries) (range_with_len 0 workers)
 
 -- each number of entries is below this one
 pub record AreBelow (most : ℕ) (r : WorkReport) : Type 0 where

@@ -4,8 +4,10 @@ ghost use Rattle.refine_board.specs.Schedules.{opened};
 ghost use Rattle.split_workers.specs.Seats.{HasEnded};
 ghost use Rattle.split_workers.specs.Desks.{IsOutcome};
 ghost use Rattle.split_workers.specs.Refined.{IsRefined};
+ghost use Rattle.split_workers.specs.Reports.{AreReports};
 
 use crate::desk::Desk;
+use crate::report::{WorkReport, reports_of};
 use crate::seat::{Seat, seats};
 use crate::worker::{Room, work};
 use product_machine::Product;
@@ -26,6 +28,8 @@ pub struct Refined<'p> {
     pub version: Version<'p>,
     /// Every call of the board, in the order in which the calls were made.
     pub journal: Journal,
+    /// How many calls of each kind each worker made.
+    pub reports: Vec<WorkReport>,
 }
 
 // The same under the names of a run and of the ledgers of its workers.
@@ -57,7 +61,8 @@ fn refine_named<
     requires workers { workers ≡ L.workers }
     requires some { (0 < workers) × (workers ≤ 64) }
     requires opening { L.opening ≡ opened L.pair L.workers first.classes first.number }
-    ensures { IfOk result (λ r. IsOutcome L.pair L.k L.workers L.opening r.version r.journal.entries) }
+    ensures outcome { IfOk result (λ r. IsOutcome L.pair L.k L.workers L.opening r.version r.journal.entries) }
+    ensures reports { IfOk result (λ r. AreReports workers r.journal.entries r.reports.items) }
 {
     let own = first.copy(alloc)?;
     let (ledgers, seats) = seats::<E, O>(alloc, ends, owed, workers)?;
@@ -76,10 +81,15 @@ fn refine_named<
             work(rt, alloc, shared, gate, seat, opening)
         },
     )?;
-    match room.close(told) {
-        Some((version, journal)) => Ok(Refined { version, journal }),
-        None => Err(AllocError),
-    }
+    let Some((version, journal)) = room.close(told) else {
+        return Err(AllocError);
+    };
+    let reports = reports_of(alloc, &journal, workers)?;
+    Ok(Refined {
+        version,
+        journal,
+        reports,
+    })
 }
 
 /// The classes of the greatest correspondence for induction over k frames, by so many workers, and the journal of their run.
@@ -96,7 +106,8 @@ pub fn refine<'p, R: Threads + Wait + Sync, G: Gate>(
     requires some { 0 < k }
     requires few { k ≤ 16 }
     requires workers { (0 < workers) × (workers ≤ 64) }
-    ensures { IfOk result (λ r. IsRefined product.entry.now k workers r.version r.journal.entries) }
+    ensures refined { IfOk result (λ r. IsRefined product.entry.now k workers r.version r.journal.entries) }
+    ensures reports { IfOk result (λ r. AreReports workers r.journal.entries r.reports.items) }
 {
     let first = Version::opening(alloc, product, k)?;
     refine_named::<Brand, Brand, Brand, R, G>(

@@ -160,7 +160,7 @@ fn two_workers_meet(rt: HostRuntime) -> Result<(), Fail> {
         return Ok(());
     };
     let gate = Meeting::new();
-    let Refined { version, journal } = refine(&rt, alloc, &product, 1, 2, &gate)?;
+    let Refined { version, journal, .. } = refine(&rt, alloc, &product, 1, 2, &gate)?;
     assert!(rt; gate.is_met());
     assert!(rt; version.classes().count() == 9);
     assert!(rt; ends_of(&journal, 0) == 1 && ends_of(&journal, 1) == 1);
