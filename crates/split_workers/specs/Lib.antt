@@ -1,0 +1,5 @@
+pub mod Tallies
+pub mod Seats
+pub mod Desks
+pub mod Refined
+pub mod Reports

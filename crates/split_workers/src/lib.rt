@@ -1,0 +1,15 @@
+//! Workers that refine one partition at once: each takes pairs from a board behind a lock, proves them outside it by a solver of
+//! its own, and answers. Whatever their schedule, they end at the classes of the greatest correspondence.
+#![tactic(auto)]
+
+mod desk;
+mod found;
+mod report;
+mod running;
+mod seat;
+#[cfg(test)]
+mod tests;
+mod worker;
+
+pub use report::{WorkReport, reports_of};
+pub use running::{Refined, refine};

@@ -1,0 +1,123 @@
+//! A run of several workers, from the opening to the classes of the greatest correspondence.
+ghost use Rattle.std.specs.Prelude.{◌≡◌, ◌<◌, ◌≤◌, ◌*◌, ◌^◌, IfOk, IfSome};
+ghost use Rattle.refine_board.specs.Schedules.{opened};
+ghost use Rattle.split_workers.specs.Seats.{HasEnded};
+ghost use Rattle.split_workers.specs.Desks.{IsOutcome};
+ghost use Rattle.split_workers.specs.Refined.{IsRefined};
+ghost use Rattle.split_workers.specs.Reports.{AreReports};
+
+use crate::desk::Desk;
+use crate::report::{WorkReport, reports_of};
+use crate::seat::{Seat, seats};
+use crate::worker::{Room, work};
+use product_machine::Product;
+use refine_board::{Board, Journal, Run};
+use sec_base::Gate;
+use std::alloc::{AllocError, Global};
+use std::marker::Brand;
+use std::sync::ledger::{Blank, Ledger};
+use std::sync::Wait;
+use std::thread;
+use std::thread::Threads;
+use verdict_stamp::Version;
+
+/// What a run comes to.
+#[derive(Drop)]
+pub struct Refined<'p> {
+    /// The version at the end: its classes are those of the greatest correspondence.
+    pub version: Version<'p>,
+    /// Every call of the board, in the order in which the calls were made.
+    pub journal: Journal,
+    /// How many calls of each kind each worker made.
+    pub reports: Vec<WorkReport>,
+}
+
+// The same under the names of a run and of the ledgers of its workers.
+fn refine_named<
+    'p,
+    L: Run + Send + Sync,
+    E: Ledger + Send + Sync,
+    O: Ledger + Send + Sync,
+    R: Threads + Wait + Sync,
+    G: Gate,
+>(
+    rt: &R,
+    alloc: Global,
+    blank: Blank,
+    ends: Blank,
+    owed: Blank,
+    first: Version<'p>,
+    workers: u32,
+    gate: &G,
+) -> Result<Refined<'p>, AllocError>
+    requires name { (blank.name ≡ L.name) × (blank.parts ≡ L.parts) }
+    requires parts { 2 ^ 62 ≤ L.parts }
+    requires ends_name { ends.name ≡ E.name }
+    requires ends_parts { (ends.parts ≡ E.parts) × (E.parts ≡ workers) }
+    requires owed_name { owed.name ≡ O.name }
+    requires owed_parts { (owed.parts ≡ O.parts) × (O.parts ≡ workers * 2) }
+    requires product { first.pair ≡ L.pair }
+    requires k { first.k ≡ L.k }
+    requires workers { workers ≡ L.workers }
+    requires some { (0 < workers) × (workers ≤ 64) }
+    requires opening { L.opening ≡ opened L.pair L.workers first.classes first.number }
+    ensures outcome { IfOk result (λ r. IsOutcome L.pair L.k L.workers L.opening r.version r.journal.entries) }
+    ensures reports { IfOk result (λ r. AreReports workers r.journal.entries r.reports.items) }
+{
+    let own = first.copy(alloc)?;
+    let (ledgers, seats) = seats::<E, O>(alloc, ends, owed, workers)?;
+    let room = Room::<L, E, O>::new(Desk::new(Board::open(alloc, blank, first, workers)?, ledgers));
+    let shared = &room;
+    let opening = &own;
+    let told = thread::map_vec(
+        rt,
+        seats,
+        &|seat: Seat<E, O>| -> Option<Seat<E, O>>
+            requires party { seat.party < L.workers }
+            requires fresh { (seat.ended ≡ 0) × (seat.owed ≡ 0) }
+            requires opening { (opening.now.pair ≡ L.pair) × (opening.now.k ≡ L.k) }
+            ensures { IfSome result (HasEnded seat.party) }
+        {
+            work(rt, alloc, shared, gate, seat, opening)
+        },
+    )?;
+    let Some((version, journal)) = room.close(told) else {
+        return Err(AllocError);
+    };
+    let reports = reports_of(alloc, &journal, workers)?;
+    Ok(Refined {
+        version,
+        journal,
+        reports,
+    })
+}
+
+/// The classes of the greatest correspondence for induction over k frames, by so many workers, and the journal of their run.
+/// The run opens on the version that simulation leaves. A worker that finds no work waits for the others' answers; where no
+/// thread can be made the caller does its work. An `Err` is want of memory: then every worker has ended.
+pub fn refine<'p, R: Threads + Wait + Sync, G: Gate>(
+    rt: &R,
+    alloc: Global,
+    product: &'p Product,
+    k: u32,
+    workers: u32,
+    gate: &G,
+) -> Result<Refined<'p>, AllocError>
+    requires some { 0 < k }
+    requires few { k ≤ 16 }
+    requires workers { (0 < workers) × (workers ≤ 64) }
+    ensures refined { IfOk result (λ r. IsRefined product.entry.now k workers r.version r.journal.entries) }
+    ensures reports { IfOk result (λ r. AreReports workers r.journal.entries r.reports.items) }
+{
+    let first = Version::opening(alloc, product, k)?;
+    refine_named::<Brand, Brand, Brand, R, G>(
+        rt,
+        alloc,
+        Blank::new(1 << 62),
+        Blank::new(workers as u64),
+        Blank::new(workers as u64 * 2),
+        first,
+        workers,
+        gate,
+    )
+}

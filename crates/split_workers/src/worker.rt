@@ -1,0 +1,351 @@
+//! A worker: it asks for a pair, proves it outside the lock and answers, until each pair is counted or memory runs out.
+//! Pairs that it finds apart it answers together, since each split opens all pairs again.
+ghost use Rattle.std.specs.Prelude.{◌≡◌, ◌≢◌, ◌<◌, ◌+◌, [], IfOk, IfSome, length};
+ghost use Rattle.refine_board.specs.Running.{IsAbout, IsAsked};
+ghost use Rattle.split_workers.specs.Seats.{HasEnded, HaveEnded, OwesLess, AreHeld};
+ghost use Rattle.split_workers.specs.Desks.{IsAskedOf, IsOutcome};
+
+use crate::desk::{Asked, Desk};
+use crate::found::Found;
+use crate::seat::Seat;
+use refine_board::{Journal, Offer, Run};
+use sec_base::Gate;
+use std::alloc::{AllocError, Global};
+use std::sync::ledger::Ledger;
+use std::sync::{Condvar, Mutex, Wait};
+use verdict_stamp::{Proof, Prover, Verdict, Version};
+
+/// What the workers share: the locked desk, and the bell that wakes those who wait for work.
+#[derive(Drop)]
+pub(crate) struct Room<'p, L: Run, E: Ledger, O: Ledger> {
+    desk: Mutex<Desk<'p, L, E, O>>,
+    bell: Condvar,
+}
+
+impl<'p, L: Run, E: Ledger, O: Ledger> Room<'p, L, E, O> {
+    pub(crate) fn new(desk: Desk<'p, L, E, O>) -> Room<'p, L, E, O> {
+        Room {
+            desk: Mutex::new(desk),
+            bell: Condvar::new(),
+        }
+    }
+
+    /// What the run came to, when all workers have gone.
+    pub(crate) fn close(self, told: Vec<Option<Seat<E, O>>>) -> Option<(Version<'p>, Journal)>
+        requires all { length told.items ≡ L.workers }
+        requires ended { HaveEnded told.items }
+        ensures { IfSome result (λ r. IsOutcome L.pair L.k L.workers L.opening r.0 r.1.entries) }
+    {
+        let Room { desk, .. } = self;
+        desk.into_inner().close(told)
+    }
+
+    // Asks for work, and waits for the bell where there is none now, unless the worker holds offers.
+    fn ask<G: Gate>(
+        &self,
+        rt: &impl Wait,
+        alloc: Global,
+        gate: &G,
+        call: u64,
+        seat: &mut Seat<E, O>,
+        mine: &Version<'p>,
+        holding: bool,
+    ) -> Asked<'p, L>
+        requires party { seat.old.party < L.workers }
+        requires working { seat.old.ended ≡ 0 }
+        requires product { mine.now.pair ≡ L.pair }
+        requires k { mine.now.k ≡ L.k }
+        ensures { IsAskedOf mine.now seat.old seat.new result }
+    {
+        let party = seat.party();
+        gate.hold(party, call);
+        let mut guard = self.desk.lock(rt);
+        let asked = guard.ask(alloc, seat, mine, holding);
+        match asked {
+            Asked::Idle => {
+                if !holding {
+                    guard = self.bell.wait(rt, guard);
+                }
+                drop(guard);
+            }
+            Asked::Ended => {
+                drop(guard);
+                self.bell.notify_all();
+            }
+            _ => drop(guard),
+        }
+        gate.told(party, call);
+        asked
+    }
+
+    // Stops the run.
+    fn stop(&self, rt: &impl Wait) {
+        self.desk.lock(rt).stop();
+        self.bell.notify_all();
+    }
+
+    // Gives an offer back, and stops the run.
+    fn give_back(&self, rt: &impl Wait, seat: &mut Seat<E, O>, offer: Offer<L>)
+        requires party { (offer.party ≡ seat.old.party) × (seat.old.party < L.workers) }
+        requires owed { 0 < seat.old.owed }
+    {
+        self.desk.lock(rt).give_back(seat, offer);
+        self.bell.notify_all();
+    }
+
+    // Answers that an offered pair holds.
+    fn keep<G: Gate>(
+        &self,
+        rt: &impl Wait,
+        gate: &G,
+        call: u64,
+        seat: &mut Seat<E, O>,
+        offer: Offer<L>,
+        verdict: &Verdict<'_, '_>,
+    )
+        requires party { (offer.party ≡ seat.old.party) × (seat.old.party < L.workers) }
+        requires owed { 0 < seat.old.owed }
+        requires about { IsAbout verdict.now offer.pair }
+        ensures { OwesLess seat.old seat.new }
+    {
+        let party = seat.party();
+        gate.hold(party, call);
+        self.desk.lock(rt).keep(seat, offer, verdict);
+        self.bell.notify_all();
+        gate.told(party, call);
+    }
+
+    // Answers a vector that separates an offered pair.
+    fn split<G: Gate>(
+        &self,
+        rt: &impl Wait,
+        gate: &G,
+        call: u64,
+        seat: &mut Seat<E, O>,
+        found: Found<'p, L>,
+    )
+        requires party { (found.party ≡ seat.old.party) × (seat.old.party < L.workers) }
+        requires owed { 0 < seat.old.owed }
+        ensures { OwesLess seat.old seat.new }
+    {
+        let Found { offer, vector } = found;
+        let party = seat.party();
+        gate.hold(party, call);
+        self.desk.lock(rt).split(seat, offer, vector);
+        self.bell.notify_all();
+        gate.told(party, call);
+    }
+
+    // Answers all offers that the worker holds.
+    fn hand_in<G: Gate>(
+        &self,
+        rt: &impl Wait,
+        gate: &G,
+        party: u32,
+        call: &mut u64,
+        seat: &mut Seat<E, O>,
+        pocket: &mut Vec<Found<'p, L>>,
+    )
+        requires party { party < L.workers }
+        requires seat { (seat.old.party ≡ party) × (seat.old.owed ≡ length pocket.old.items) }
+        requires held { AreHeld party pocket.old.items }
+        ensures seat { (seat.new.party ≡ party) × (seat.new.ended ≡ seat.old.ended) × (seat.new.owed ≡ 0) }
+        ensures pocket { pocket.new.items ≡ [] }
+    {
+        while let Some(found) = pocket.pop() {
+            self.split(rt, gate, next_call(call), seat, found);
+        }
+    }
+
+    // Proves an offered pair. Answers that it holds at once; a vector that separates it goes into the pocket.
+    fn prove<G: Gate>(
+        &self,
+        rt: &impl Wait,
+        alloc: Global,
+        gate: &G,
+        party: u32,
+        call: &mut u64,
+        prover: &Prover<'p>,
+        seat: &mut Seat<E, O>,
+        pocket: &mut Vec<Found<'p, L>>,
+        offer: Offer<L>,
+    ) -> Turn
+        requires party { (offer.party ≡ party) × (party < L.workers) }
+        requires seat { (seat.old.party ≡ party) × (seat.old.ended ≡ 0) × (seat.old.owed ≡ length pocket.old.items + 1) }
+        requires held { AreHeld party pocket.old.items }
+        requires asked { IsAsked prover.now offer.pair }
+        requires product { prover.now.pair ≡ L.pair }
+        requires k { prover.now.k ≡ L.k }
+        ensures going { result ≢ Turn.Ended }
+        ensures seat { result ≡ Turn.On → (seat.new.party ≡ party) × (seat.new.ended ≡ 0) × (seat.new.owed ≡ length pocket.new.items) }
+        ensures held { result ≡ Turn.On → AreHeld party pocket.new.items }
+    {
+        gate.works(party, last_call(*call));
+        if pocket.reserve(1).is_err() {
+            self.give_back(rt, seat, offer);
+            return Turn::Stopped;
+        }
+        match prover.prove(alloc, offer.pair()) {
+            Ok(Proof::Holds(verdict)) => self.keep(rt, gate, next_call(call), seat, offer, &verdict),
+            Ok(Proof::Splits(vector)) => pocket.push_reserved(Found { offer, vector }),
+            Err(_) => {
+                self.give_back(rt, seat, offer);
+                return Turn::Stopped;
+            }
+        }
+        Turn::On
+    }
+
+    // Proves an offered pair of another version.
+    fn prove_anew<G: Gate>(
+        &self,
+        rt: &impl Wait,
+        alloc: Global,
+        gate: &G,
+        party: u32,
+        call: &mut u64,
+        prover: &mut Prover<'p>,
+        seat: &mut Seat<E, O>,
+        pocket: &mut Vec<Found<'p, L>>,
+        offer: Offer<L>,
+        version: Version<'p>,
+    ) -> Turn
+        requires party { (offer.party ≡ party) × (party < L.workers) }
+        requires seat { (seat.old.party ≡ party) × (seat.old.ended ≡ 0) × (seat.old.owed ≡ length pocket.old.items + 1) }
+        requires held { AreHeld party pocket.old.items }
+        requires asked { IsAsked version offer.pair }
+        requires product { version.pair ≡ L.pair }
+        requires k { version.k ≡ L.k }
+        ensures going { result ≢ Turn.Ended }
+        ensures prover { result ≡ Turn.On → prover.new ≡ version.entry }
+        ensures seat { result ≡ Turn.On → (seat.new.party ≡ party) × (seat.new.ended ≡ 0) × (seat.new.owed ≡ length pocket.new.items) }
+        ensures held { result ≡ Turn.On → AreHeld party pocket.new.items }
+    {
+        match Prover::new(alloc, version) {
+            Ok(anew) => {
+                *prover = anew;
+                self.prove(rt, alloc, gate, party, call, prover, seat, pocket, offer)
+            }
+            Err(_) => {
+                self.give_back(rt, seat, offer);
+                Turn::Stopped
+            }
+        }
+    }
+
+    // Asks once, and does what is asked. Offers that it holds it hands in when it finds no open pair, or the board has
+    // another version.
+    fn turn<G: Gate>(
+        &self,
+        rt: &impl Wait,
+        alloc: Global,
+        gate: &G,
+        party: u32,
+        call: &mut u64,
+        prover: &mut Prover<'p>,
+        seat: &mut Seat<E, O>,
+        pocket: &mut Vec<Found<'p, L>>,
+    ) -> Turn
+        requires party { party < L.workers }
+        requires seat { (seat.old.party ≡ party) × (seat.old.ended ≡ 0) × (seat.old.owed ≡ length pocket.old.items) }
+        requires held { AreHeld party pocket.old.items }
+        requires product { prover.old.pair ≡ L.pair }
+        requires k { prover.old.k ≡ L.k }
+        ensures prover { result ≡ Turn.On → (prover.new.pair ≡ L.pair) × (prover.new.k ≡ L.k) }
+        ensures seat { result ≡ Turn.On → (seat.new.party ≡ party) × (seat.new.ended ≡ 0) × (seat.new.owed ≡ length pocket.new.items) }
+        ensures held { result ≡ Turn.On → AreHeld party pocket.new.items }
+        ensures ended { result ≡ Turn.Ended → HasEnded party seat.new }
+    {
+        let number = next_call(call);
+        let holding = pocket.len() > 0;
+        match self.ask(rt, alloc, gate, number, seat, prover.version(), holding) {
+            Asked::Work(offer) => {
+                self.prove(rt, alloc, gate, party, call, prover, seat, pocket, offer)
+            }
+            Asked::Anew(offer, version) => {
+                self.prove_anew(rt, alloc, gate, party, call, prover, seat, pocket, offer, version)
+            }
+            Asked::Idle | Asked::Moved => {
+                self.hand_in(rt, gate, party, call, seat, pocket);
+                Turn::On
+            }
+            Asked::Ended => {
+                self.hand_in(rt, gate, party, call, seat, pocket);
+                Turn::Ended
+            }
+            Asked::Stopped => Turn::Stopped,
+        }
+    }
+}
+
+// What a worker does next.
+#[derive(Clone, Copy, PartialEq, Eq)]
+enum Turn {
+    /// It asks again.
+    On,
+    /// It ends, since each pair is counted.
+    Ended,
+    /// It ends for want of memory.
+    Stopped,
+}
+
+// The number of the next call; it stays where it is the greatest.
+fn next_call(call: &mut u64) -> u64 {
+    let now = *call;
+    *call = now.saturating_add(1);
+    now
+}
+
+// The number of the last call.
+fn last_call(call: u64) -> u64 {
+    call.saturating_sub(1)
+}
+
+// Whether the vectors of so many places take a quarter of a gigabyte.
+fn is_full<T>(pocket: &Vec<T>, places: u32) -> bool {
+    pocket.len() as u64 > (1 << 31) / (places as u64 + 1)
+}
+
+// The prover of a version.
+fn prover_of<'p>(alloc: Global, version: &Version<'p>) -> Result<Prover<'p>, AllocError>
+    ensures { IfOk result (λ p. p ≡ version.now) }
+{
+    Prover::new(alloc, version.copy(alloc)?)
+}
+
+/// Works until the end, and gives the seat back where the worker was told that each pair is counted; nothing where memory
+/// ran out.
+pub(crate) fn work<'p, L: Run, E: Ledger, O: Ledger, G: Gate>(
+    rt: &impl Wait,
+    alloc: Global,
+    room: &Room<'p, L, E, O>,
+    gate: &G,
+    seat: Seat<E, O>,
+    first: &Version<'p>,
+) -> Option<Seat<E, O>>
+    requires party { seat.party < L.workers }
+    requires fresh { (seat.ended ≡ 0) × (seat.owed ≡ 0) }
+    requires product { first.now.pair ≡ L.pair }
+    requires k { first.now.k ≡ L.k }
+    ensures { IfSome result (HasEnded seat.party) }
+{
+    let Ok(mut prover) = prover_of(alloc, first) else {
+        room.stop(rt);
+        return None;
+    };
+    let party = seat.party();
+    let mut seat = seat;
+    let mut pocket = Vec::new(alloc);
+    let mut call: u64 = 0;
+    for _turn in rt.forever() {
+        match room.turn(rt, alloc, gate, party, &mut call, &mut prover, &mut seat, &mut pocket) {
+            Turn::On => {}
+            Turn::Ended => return Some(seat),
+            Turn::Stopped => return None,
+        }
+        if is_full(&pocket, first.classes().len()) {
+            room.hand_in(rt, gate, party, &mut call, &mut seat, &mut pocket);
+        }
+    }
+    unreachable!()
+}
