@@ -67,9 +67,9 @@ IsReplayAnswer pair bytes answer = (trace : Trace) × (trace_of pair (lines_of b
 abbrev pub IsVerifyAnswer : Pair → List ℕ → Answer → Type 0
 IsVerifyAnswer pair bytes answer = IsSupported pair bytes × (answer.status ≡ 0) × (answer.text.items ≡ verified_line)
 
--- a demo is checked as two files are, without class lines and stored files
+-- a demo is checked as two files are, without class lines, numbers of entries and stored files
 abbrev pub check_of_demo : Demo → Check
-check_of_demo d = record { left = 0; right = 0; k = d.k; workers = d.workers; classes = false; trace = None; cert = None }
+check_of_demo d = record { left = 0; right = 0; k = d.k; workers = d.workers; classes = false; stats = false; trace = None; cert = None }
 
 -- the line of the demo, and then the verdict of its pair
 abbrev pub IsDemoAnswer : Demo → Answer → Type 0

@@ -16,7 +16,10 @@ use class_text::push_class_lines;
 use corr_certificate::write_cert;
 use induction_base::{Diff, least_difference};
 use product_machine::Product;
+use sec_base::Gate;
 use std::alloc::{AllocError, Global};
+use std::sync::Wait;
+use std::thread::Threads;
 use trace_witness::write_trace;
 use verdict_stamp::greatest_classes;
 
@@ -174,9 +177,16 @@ fn different(alloc: Global, product: &Product, c: &Check, diff: &Diff) -> Result
 }
 
 /// The verdict of a pair, as it is printed.
-pub(crate) fn check_pair(alloc: Global, product: &Product, c: &Check) -> Result<Answer, AllocError>
+pub(crate) fn check_pair<R: Threads + Wait + Sync, G: Gate>(
+    _rt: &R,
+    alloc: Global,
+    product: &Product,
+    c: &Check,
+    _gate: &G,
+) -> Result<Answer, AllocError>
     requires some { 0 < c.now.k }
     requires few { c.now.k ≤ 16 }
+    requires workers { (0 < c.now.workers) × (c.now.workers ≤ 64) }
     ensures answer { IfOk result (IsCheckAnswer product.now c.now) }
     ensures status { IfOk result (λ a. a.status ≤ 2) }
 {

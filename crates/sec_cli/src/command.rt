@@ -16,8 +16,10 @@ use crate::replaying::replay;
 use crate::telling::{refusal_status, tell, tell_refusal};
 use crate::verifying::verify_file;
 use crate::words::{Check, Command, Demo, command_of};
-use sec_base::{Shelf, Sink};
+use sec_base::{Gate, Shelf, Sink};
 use std::alloc::Global;
+use std::sync::Wait;
+use std::thread::Threads;
 
 /// How a run ended: 0, 1 and 2 with an answer, 3 for wrong words, 4 for a refusal, 5 and 6 where reading and writing failed, 7
 /// for want of memory.
@@ -30,15 +32,18 @@ const USAGE: &str =
     "usage: sec check LEFT RIGHT [-k K] [-j J] [--classes] [--stats] [--trace FILE] [--cert FILE]\n       sec replay LEFT RIGHT TRACE\n       sec verify LEFT RIGHT CERT\n       sec demo N [-k K] [-j J]\n";
 
 // The answer of a check of two files.
-fn check_files<S: Shelf>(
+fn check_files<R: Threads + Wait + Sync, S: Shelf, G: Gate>(
+    rt: &R,
     alloc: Global,
     shelf: &mut S,
     left: &str,
     right: &str,
     c: &Check,
+    gate: &G,
 ) -> Result<Answer, Refusal>
     requires some { 0 < c.now.k }
     requires few { c.now.k ≤ 16 }
+    requires workers { (0 < c.now.workers) × (c.now.workers ≤ 64) }
     ensures ending { IsTrue S.tells → IsCheckEnding (S.file shelf.old left.now) (S.file shelf.old right.now) c.now result }
     ensures status { IfOk result (λ a. a.status ≤ 2) }
     ensures failed { IsLoadEnding result → Rose (S.load_faults shelf.old) (S.load_faults shelf.new) }
@@ -49,7 +54,7 @@ fn check_files<S: Shelf>(
 {
     match load_pair(alloc, shelf, left, right) {
         Err(unpaired) => Err(Refusal::Unpaired(unpaired)),
-        Ok(product) => match check_pair(alloc, &product, c) {
+        Ok(product) => match check_pair(rt, alloc, &product, c, gate) {
             Ok(answer) => Ok(answer),
             Err(_) => Err(Refusal::Memory),
         },
@@ -101,25 +106,32 @@ fn verify_files<S: Shelf>(
 }
 
 // The answer of a demo, which loads no files.
-fn demo_ending(alloc: Global, d: &Demo) -> Result<Answer, Refusal>
+fn demo_ending<R: Threads + Wait + Sync, G: Gate>(
+    rt: &R,
+    alloc: Global,
+    d: &Demo,
+    gate: &G,
+) -> Result<Answer, Refusal>
     requires { IsDemoOf d.now }
     ensures ending { IsDemoEnding d.now result }
     ensures status { IfOk result (λ a. a.status ≤ 2) }
     ensures unloaded { IsLoadEnding result → ⊥ }
     ensures names { failed_names [] [] [] result ≡ [] }
 {
-    match demo_answer(alloc, d) {
+    match demo_answer(rt, alloc, d, gate) {
         Ok(answer) => Ok(answer),
         Err(_) => Err(Refusal::Memory),
     }
 }
 
 // The answer of a command.
-fn decide<S: Shelf>(
+fn decide<R: Threads + Wait + Sync, S: Shelf, G: Gate>(
+    rt: &R,
     alloc: Global,
     shelf: &mut S,
     words: &[String],
     command: Command,
+    gate: &G,
 ) -> Result<Answer, Refusal>
     requires words { AreWordsOf (length words.now) command }
     ensures ending { IsTrue S.tells → IsEnding (S.file shelf.old) (texts words.now) command result }
@@ -133,11 +145,13 @@ fn decide<S: Shelf>(
     match command {
         Command::Check(c) => {
             check_files(
+                rt,
                 alloc,
                 shelf,
                 words[c.left].as_str(),
                 words[c.right].as_str(),
                 &c,
+                gate,
             )
         }
         Command::Replay(c) => replay_files(
@@ -154,7 +168,7 @@ fn decide<S: Shelf>(
             words[c.right].as_str(),
             words[c.cert].as_str(),
         ),
-        Command::Demo(d) => demo_ending(alloc, &d),
+        Command::Demo(d) => demo_ending(rt, alloc, &d, gate),
     }
 }
 
@@ -206,13 +220,15 @@ fn refuse<E: Sink>(words: &[String], command: Command, refusal: Refusal, err: &m
 }
 
 // Does what a command asks for.
-fn perform<S: Shelf, O: Sink, E: Sink>(
+fn perform<R: Threads + Wait + Sync, S: Shelf, O: Sink, E: Sink, G: Gate>(
+    rt: &R,
     alloc: Global,
     words: &[String],
     command: Command,
     shelf: &mut S,
     out: &mut O,
     err: &mut E,
+    gate: &G,
 ) -> u8
     requires words { AreWordsOf (length words.now) command }
     ensures reported { (e : Ending) × (IsTrue S.tells → IsEnding (S.file shelf.old) (texts words.now) command e) × IfOk e (λ a. a.status ≤ 2)
@@ -226,22 +242,24 @@ fn perform<S: Shelf, O: Sink, E: Sink>(
     ensures out_count { O.faults out.old ≤ O.faults out.new }
     ensures err_count { E.faults err.old ≤ E.faults err.new }
 {
-    match decide(alloc, shelf, words, command) {
+    match decide(rt, alloc, shelf, words, command, gate) {
         Ok(answer) => deliver(words, command, &answer, shelf, out, err),
         Err(refusal) => refuse(words, command, refusal, err),
     }
 }
 
 /// One run of the program over these words, of which the first is its own name: `check LEFT RIGHT [-k K] [-j J] [--classes]
-/// [--trace FILE] [--cert FILE]`, `replay LEFT RIGHT TRACE`, `verify LEFT RIGHT CERT` or `demo N [-k K] [-j J]`. `check` decides by signal correspondence with k-induction (van Eijk, IEEE TCAD
+/// [--stats] [--trace FILE] [--cert FILE]`, `replay LEFT RIGHT TRACE`, `verify LEFT RIGHT CERT` or `demo N [-k K] [-j J]`. `check` decides by signal correspondence with k-induction (van Eijk, IEEE TCAD
 /// 19(7), 2000; Sheeran, Singh, Stålmarck, FMCAD 2000) after a search for a difference in the first k frames; `replay` tells
 /// the first difference of a stored trace; `verify` reads a stored certificate, without solver or threads; `demo` checks a pair of any size that it makes itself.
-pub fn run<S: Shelf, O: Sink, E: Sink>(
+pub fn run<R: Threads + Wait + Sync, S: Shelf, O: Sink, E: Sink, G: Gate>(
+    rt: &R,
     alloc: Global,
     words: &[String],
     shelf: &mut S,
     out: &mut O,
     err: &mut E,
+    gate: &G,
 ) -> Report
     // Words that aren't plain answer 3, and no other words do.
     ensures usage { MatchBool (is_some (command_of (texts words.now))) (result.status ≢ 3) (result.status ≡ 3) }
@@ -284,7 +302,7 @@ pub fn run<S: Shelf, O: Sink, E: Sink>(
             Report { status: 3 }
         }
         Some(command) => {
-            let status = perform(alloc, words, command, shelf, out, err);
+            let status = perform(rt, alloc, words, command, shelf, out, err, gate);
             Report { status }
         }
     }

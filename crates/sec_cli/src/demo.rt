@@ -11,7 +11,10 @@ use crate::lines::demo_line;
 use crate::words::{Check, Demo};
 use demo_pair::make_demo;
 use product_machine::Product;
+use sec_base::Gate;
 use std::alloc::{AllocError, Global};
+use std::sync::Wait;
+use std::thread::Threads;
 
 // The pair of a size.
 fn demo_product(alloc: Global, n: u32) -> Result<Product, AllocError>
@@ -26,7 +29,12 @@ fn demo_product(alloc: Global, n: u32) -> Result<Product, AllocError>
 }
 
 /// The line of the demo of a size, and the verdict of its pair.
-pub(crate) fn demo_answer(alloc: Global, d: &Demo) -> Result<Answer, AllocError>
+pub(crate) fn demo_answer<R: Threads + Wait + Sync, G: Gate>(
+    rt: &R,
+    alloc: Global,
+    d: &Demo,
+    gate: &G,
+) -> Result<Answer, AllocError>
     requires { IsDemoOf d.now }
     ensures answer { IfOk result (IsDemoAnswer d.now) }
     ensures status { IfOk result (λ a. a.status ≤ 2) }
@@ -38,12 +46,13 @@ pub(crate) fn demo_answer(alloc: Global, d: &Demo) -> Result<Answer, AllocError>
         k: d.k,
         workers: d.workers,
         classes: false,
+        stats: false,
         trace: None,
         cert: None,
     };
     let line = demo_line(alloc, d.n)?;
     let mut text = Vec::from_slice(alloc, line.as_bytes())?;
-    let answer = check_pair(alloc, &product, &check)?;
+    let answer = check_pair(rt, alloc, &product, &check, gate)?;
     text.extend_from_slice(answer.text.as_slice())?;
     let Answer { status, file, .. } = answer;
     Ok(Answer { status, text, file })
