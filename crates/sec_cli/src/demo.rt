@@ -1,8 +1,8 @@
 // The answer of `demo`: the line of a demo pair, and the verdict of its two netlists.
-ghost use Rattle.std.specs.Prelude.{◌≤◌, ◌≡◌, IfOk};
+ghost use Rattle.std.specs.Prelude.{◌≤◌, ◌≡◌, IfOk, is_some};
 ghost use Rattle.circ_model.specs.Meaning.{IsSoundPair};
 ghost use Rattle.demo_pair.specs.Demo.{IsDemo};
-ghost use Rattle.sec_cli.specs.Answers.{IsDemoAnswer};
+ghost use Rattle.sec_cli.specs.Answers.{IsDemoAnswer, is_refined};
 ghost use Rattle.sec_cli.specs.Words.{IsDemoOf};
 
 use crate::checking::check_pair;
@@ -38,6 +38,7 @@ pub(crate) fn demo_answer<R: Threads + Wait + Sync, G: Gate>(
     requires { IsDemoOf d.now }
     ensures answer { IfOk result (IsDemoAnswer d.now) }
     ensures status { IfOk result (λ a. a.status ≤ 2) }
+    ensures journal { IfOk result (λ a. is_some a.journal ≡ is_refined a.status) }
 {
     let product = demo_product(alloc, d.n)?;
     let check = Check {
@@ -54,6 +55,16 @@ pub(crate) fn demo_answer<R: Threads + Wait + Sync, G: Gate>(
     let mut text = Vec::from_slice(alloc, line.as_bytes())?;
     let answer = check_pair(rt, alloc, &product, &check, gate)?;
     text.extend_from_slice(answer.text.as_slice())?;
-    let Answer { status, file, .. } = answer;
-    Ok(Answer { status, text, file })
+    let Answer {
+        status,
+        file,
+        journal,
+        ..
+    } = answer;
+    Ok(Answer {
+        status,
+        text,
+        file,
+        journal,
+    })
 }

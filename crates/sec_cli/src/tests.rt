@@ -400,6 +400,113 @@ fn demos_are_equivalent(rt: HostRuntime) -> Result<(), Fail> {
 }
 
 #[test]
+fn numbers_of_entries(rt: HostRuntime) -> Result<(), Fail> {
+    let alloc = rt.alloc();
+    let none = "aag 0 0 0 0 0\n";
+    let nothing =
+        "equivalent k=1 signals=1 classes=1\nstats offers=0 counted=0 stale=0 splits=0 already=0 back=0\n";
+    // Simulation tells both latches from the constant, and leaves one pair, which one worker proves.
+    let one =
+        "equivalent k=1 signals=3 classes=2\nclass l1 r1\nstats offers=1 counted=1 stale=0 splits=0 already=0 back=0\n";
+    let open =
+        "undecided k=1 signals=2 classes=2 unpaired=0\nstats offers=0 counted=0 stale=0 splits=0 already=0 back=0\n";
+    let differs = "different k=2 frame=1 output=0\n1\nb0\n0\n\n\n.\n";
+    let rows = [
+        case("sec check left right --stats", none, none, 0, nothing, ""),
+        case(
+            "sec check left right --stats -j 64",
+            none,
+            none,
+            0,
+            nothing,
+            "",
+        ),
+        case(
+            "sec check --stats left right --classes",
+            TOGGLE,
+            TOGGLE,
+            0,
+            one,
+            "",
+        ),
+        case(
+            "sec check left right --classes --stats -j 7",
+            TOGGLE,
+            TOGGLE,
+            0,
+            one,
+            "",
+        ),
+        case("sec check left right --stats", TOGGLE, LOW, 2, open, ""),
+        case(
+            "sec check left right --stats -k 2",
+            TOGGLE,
+            LOW,
+            1,
+            differs,
+            "",
+        ),
+    ];
+    for row in rows.iter() {
+        assert!(rt; answers_so(&rt, alloc, row)?);
+    }
+    Ok(())
+}
+
+#[test]
+fn any_number_of_workers_tells_the_same(rt: HostRuntime) -> Result<(), Fail> {
+    let alloc = rt.alloc();
+    let ten =
+        "demo n=10 inputs=10 latches=10 gates=60 outputs=10\nequivalent k=1 signals=151 classes=70\n";
+    let open =
+        "undecided k=1 signals=12 classes=9 unpaired=0\nclass c r5\nclass l2 r2\nclass r6 !r7\n";
+    let rows = [
+        case(
+            "sec check left right --classes -j 1",
+            DELAY,
+            MASKED,
+            2,
+            open,
+            "",
+        ),
+        case(
+            "sec check left right --classes -j 2",
+            DELAY,
+            MASKED,
+            2,
+            open,
+            "",
+        ),
+        case(
+            "sec check left right --classes -j 7",
+            DELAY,
+            MASKED,
+            2,
+            open,
+            "",
+        ),
+        case("sec demo 10 -j 1", "", "", 0, ten, ""),
+        case("sec demo 10 -j 2", "", "", 0, ten, ""),
+        case("sec demo 10 -j 7", "", "", 0, ten, ""),
+    ];
+    for row in rows.iter() {
+        assert!(rt; answers_so(&rt, alloc, row)?);
+    }
+    Ok(())
+}
+
+#[test]
+fn seven_workers_tell_the_same_each_time(rt: HostRuntime) -> Result<(), Fail> {
+    let alloc = rt.alloc();
+    let fifty =
+        "demo n=50 inputs=50 latches=50 gates=300 outputs=50\nequivalent k=1 signals=751 classes=385\n";
+    for _ in 0..3u32 {
+        assert!(rt; answers_so(&rt, alloc, &case("sec demo 50 -j 7", "", "", 0, fifty, ""))?);
+    }
+    Ok(())
+}
+
+#[test]
 fn words_that_are_no_command(rt: HostRuntime) -> Result<(), Fail> {
     let alloc = rt.alloc();
     let usage =
