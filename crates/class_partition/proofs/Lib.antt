@@ -8,4 +8,9 @@ pub mod Verdicts
 pub mod Places
 pub mod Unsplit
 pub mod Kept
+pub mod WordSplitting
+pub mod WordRows
+pub mod WordPlaces
+pub mod Finer
+pub mod WordKept
 mod Tallying

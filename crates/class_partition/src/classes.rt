@@ -1,13 +1,16 @@
-ghost use Rattle.std.specs.Prelude.{◌≡◌, ◌<◌, ◌≤◌, ◌+◌, ◌/◌, ◌↔◌, ℕ, IsTrue, length, IfOk};
+ghost use Rattle.std.specs.Prelude.{◌≡◌, ◌<◌, ◌≤◌, ◌+◌, ◌/◌, ◌↔◌, ℕ, IsTrue, length, IfOk, OnOk, OnErr};
 ghost use Rattle.class_partition.specs.Classes.{least_of, phase_of, ArePartition, AreTogether, Pairs, IsSplit, one_class, class_count, split_of, HoldIn, IsNextNeeded};
 ghost use Rattle.class_partition.specs.Steps.{classes_of};
+ghost use Rattle.class_partition.specs.Words.{bits_of, rows_of, IsSplitByWords, split_of_words, splits_of};
 
 use crate::least::count_least;
+use crate::parts;
 use crate::split::split_places;
 use bit_rows::BitRow;
 use circ_model::Lit;
 use std::alloc::{AllocError, Global};
 use std::marker::Model;
+use std::mem;
 
 /// A partition of the places of a pair into classes, each place with a phase: two places of a class are equal up to the
 /// complement that their phases tell. Contracts see it as the least place of each place's class, and the phases.
@@ -168,5 +171,26 @@ impl Classes {
         let added = split_places(&mut self.least, &self.phase, row, &mut self.other);
         self.count += added;
         added
+    }
+
+    /// Splits the classes by 64 rows at once. There is a word for each place, and bit b of each word belongs to row b. Two
+    /// places stay together exactly where they were and their words, each complemented where the place's phase is 1, are
+    /// equal. Answers how many classes that adds. An error leaves the classes as they were.
+    pub fn split_by_words(&mut self, alloc: Global, words: &[u64]) -> Result<u32, AllocError>
+        requires words { length words.now ≡ length self.old.least }
+        ensures split { OnOk result (self.new ≡ split_of_words (length self.old.least) self.old words.now) }
+        ensures splits { OnOk result (IsSplitByWords (length self.old.least) self.old words.now self.new) }
+        ensures rows { OnOk result (self.new ≡ splits_of (length self.old.least) self.old (rows_of words.now)) }
+        ensures count { IfOk result (λ added. class_count (length self.old.least) self.new ≡ class_count (length self.old.least) self.old + added) }
+        ensures none { IfOk result (λ added. added ≡ 0 → (self.new ≡ self.old) × ((b : ℕ) → b < 64 → HoldIn (length self.old.least) self.old (bits_of b words.now))) }
+        ensures err { OnErr result (self.new ≡ self.old) }
+    {
+        let _places = self.phase.len();
+        let least = self.least.as_slice();
+        let after = self.other.as_mut_slice();
+        let more = parts::split_places(alloc, least, &self.phase, words, after)?;
+        mem::swap(&mut self.least, &mut self.other);
+        self.count += more;
+        Ok(more)
     }
 }

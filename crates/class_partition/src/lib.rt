@@ -5,6 +5,7 @@
 mod classes;
 mod laws;
 mod least;
+mod parts;
 mod split;
 #[cfg(test)]
 mod tests;

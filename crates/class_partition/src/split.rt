@@ -1,5 +1,5 @@
-// Splitting classes by a row, in one pass over the places. The first place of a class keeps it; the first place that
-// differs from it begins the other part, which `other` keeps at the class's first place.
+//! Splitting classes by a row, in one pass over the places. The first place of a class keeps it; the first place that
+//! differs from it begins the other part, which `other` keeps at the class's first place.
 ghost use Rattle.std.specs.Prelude.{◌≡◌, ◌<◌, ◌≤◌, ◌+◌, ◌^◌, ℕ, length, slice_index};
 ghost use Rattle.class_partition.specs.Classes.{ArePartition, class_count, split_of};
 ghost use Rattle.class_partition.specs.Steps.{classes_of, split_step};

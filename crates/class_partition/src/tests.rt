@@ -56,3 +56,63 @@ fn rows_split_classes_by_bits_and_phases(rt: HostRuntime) -> Result<(), Fail> {
     }
     Ok(())
 }
+
+// Splits by each of the 64 rows of the words in turn.
+fn split_by_rows(alloc: Global, classes: &mut Classes, words: &[u64; 6]) -> Result<(), AllocError> {
+    let mut row = BitRow::with_len(alloc, 6)?;
+    for b in 0..64u32 {
+        for place in 0..6 {
+            if place < row.len() {
+                row.set(place, (words[place as usize] >> b) & 1 == 1);
+            }
+        }
+        if row.len() == classes.len() {
+            classes.split_by(&row);
+        }
+    }
+    Ok(())
+}
+
+// Splits by the words at once. Answers how many classes that adds; 9 where there is not a word for each place.
+fn split_by_words(
+    alloc: Global,
+    classes: &mut Classes,
+    words: &[u64; 6],
+) -> Result<u32, AllocError> {
+    if classes.len() == 6 {
+        classes.split_by_words(alloc, words)
+    } else {
+        Ok(9)
+    }
+}
+
+#[test]
+fn words_split_as_their_rows_in_turn(rt: HostRuntime) -> Result<(), Fail> {
+    let alloc = rt.alloc();
+    let high = 1u64 << 63;
+    for (bits, words, added, least) in [
+        (0b100110, [0, !0, !0, 0, 0, !0], 0, [0, 0, 0, 0, 0, 0]),
+        (0b100110, [0; 6], 1, [0, 1, 1, 0, 0, 1]),
+        (0b100110, [1, !1, !2, 2, 1, !1], 1, [0, 0, 2, 2, 0, 0]),
+        // two classes whose places have the same words
+        (0b001010, [7, !9, !7, 9, 7, !9], 2, [0, 1, 2, 3, 0, 3]),
+        (0b001010, [7, !7, !7, 9, high, !7], 2, [0, 0, 2, 3, 4, 2]),
+        (0b001010, [0, !1, !0, 3, 4, !5], 4, [0, 1, 2, 3, 4, 5]),
+    ] {
+        // phases of places 1, 2 and 5 are 1
+        let mut classes = Classes::one_class(alloc, &row_of(alloc, 0b100110)?)?;
+        let first = row_of(alloc, bits)?;
+        if first.len() == classes.len() {
+            classes.split_by(&first);
+        }
+        let mut copy = classes.copy(alloc)?;
+        let before = classes.count();
+        assert!(rt; split_by_words(alloc, &mut classes, &words)? == added);
+        split_by_rows(alloc, &mut copy, &words)?;
+        assert!(rt;
+            before < 7 && classes.count() == before + added && table_of(&classes)[0] == least
+        );
+        assert!(rt; copy.count() == classes.count() && table_of(&copy) == table_of(&classes));
+    }
+    Ok(())
+}

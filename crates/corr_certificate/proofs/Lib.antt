@@ -13,6 +13,11 @@ pub mod PartsAgain
 pub mod JoinAgain
 pub mod LinesAgain
 pub mod WholeAgain
+pub mod Counting
+pub mod Renumbering
+pub mod Marking
+pub mod Ranks
+pub mod Kept
 pub mod Answering
 pub mod Going
 pub mod Sizes

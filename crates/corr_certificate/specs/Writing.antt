@@ -1,5 +1,5 @@
 -- The text of a certificate for classes whose needed pairs have these logs.
-use Rattle.std.specs.Prelude.{◌≡◌, ◌<◌, ◌≤◌, ℕ, List, [], ◌∷◌, ◌++◌, codes, decimal}
+use Rattle.std.specs.Prelude.{◌≡◌, ◌<◌, ◌≤◌, ℕ, List, [], ◌∷◌, ◌++◌, length, codes, decimal}
 use Rattle.std.specs.List.{All, range_with_len}
 use Rattle.circ_model.specs.Meaning.{Pair, places_of}
 use Rattle.class_partition.specs.Classes.{Classes, ArePartition, IsStable, is_least}
@@ -11,6 +11,7 @@ use Rattle.sat_log.specs.Texts.{HasText, log_text}
 use Rattle.frame_unroll.specs.Unrolled.{Unrolling, from_reset, after_classes}
 use Rattle.class_text.specs.ClassLines.{name_of, class_lines}
 use Rattle.corr_certificate.specs.Parts.{Either, base_formula, step_formula}
+use Rattle.corr_certificate.specs.Trimming.{IsTrimmed}
 
 -- the depth of the induction, and how many signals there are
 abbrev pub head_text : Pair → ℕ → List ℕ
@@ -20,9 +21,10 @@ head_text pair k = codes "seccert 1 k=" ++ (decimal k ++ (codes " signals=" ++ (
 abbrev pub part_text : Pair → List ℕ → ℕ → List Line → List ℕ
 part_text pair keyword p log = keyword ++ (name_of (signal_at pair p) ++ 10 ∷ log_text log)
 
--- a log that is accepted, of lines that have a text
+-- a trimmed log that is accepted, of lines that have a text
 pub record Derives (formula : Formula) (log : List Line) : Type 0 where
   pub accepted : IsAccepted formula log
+  pub trimmed : IsTrimmed (length formula.clauses) log
   pub lines : AreLines log
   pub hints : All HasText log
 
@@ -33,10 +35,12 @@ pub record AreProved (pair : Pair) (k : ℕ) (classes : Classes) : Type 0 where
   pub partition : ArePartition (places_of pair) classes
   pub stable : IsStable pair k classes
 
--- the frames of the two questions
-pub record AreFrames (pair : Pair) (k : ℕ) (classes : Classes) (base step : Unrolling) : Type 0 where
+-- the frames of the two questions, and how many clauses each has with a question
+pub record AreFrames (pair : Pair) (k : ℕ) (classes : Classes) (base step : Unrolling) (base_clauses step_clauses : ℕ) : Type 0 where
   pub base_is : base ≡ from_reset pair k
   pub step_is : step ≡ after_classes pair k classes
+  pub base_count : (p : ℕ) → base_clauses ≡ length (base_formula pair k classes p).clauses
+  pub step_count : (p : ℕ) → step_clauses ≡ length (step_formula pair k classes p).clauses
 
 -- a member's two parts are added to a text
 pub record AddsMember (pair : Pair) (k : ℕ) (classes : Classes) (p : ℕ) (before after : List ℕ) : Type 0 where

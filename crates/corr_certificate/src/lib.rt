@@ -10,6 +10,7 @@ mod laws;
 mod reading;
 #[cfg(test)]
 mod tests;
+mod trimming;
 mod writing;
 
 pub use fault::{CertFault, CertKind, Checked};

@@ -1,8 +1,10 @@
 //! The certificate of two toggling latches, what becomes of it when lines and bytes change, and where it is cut.
+use super::trimming::trimmed;
 use super::{CertFault, CertKind, Checked, verify};
 use aig_graph::{BuildFault, NetBuilder, Netlist};
 use circ_model::Lit;
 use product_machine::{PairFault, Product};
+use sat_log::{LogError, read_log, write_log};
 use std::alloc::{AllocError, Global};
 use std::test::Fail;
 
@@ -301,6 +303,60 @@ fn a_certificate_is_verified_or_its_first_fault_is_told(rt: HostRuntime) -> Resu
             assert!(rt; bad_parts_are_told(alloc, &product)?);
         }
         Err(_) => assert!(rt; false),
+    }
+    Ok(())
+}
+
+// The text of a log, trimmed over a formula of six clauses.
+fn trimmed_text(alloc: Global, bytes: &[u8]) -> Result<Vec<u8>, LogError> {
+    let log = read_log(alloc, bytes)?;
+    let mut text = Vec::new(alloc);
+    let Ok(kept) = trimmed(alloc, 6, &log) else {
+        return Err(LogError::Memory);
+    };
+    match write_log(&kept, &mut text) {
+        Ok(()) => Ok(text),
+        Err(_) => Err(LogError::Memory),
+    }
+}
+
+// Whether the worked certificate is accepted with this log in its base part.
+fn is_yes_with(alloc: Global, product: &Product, base: &[u8]) -> Result<bool, AllocError> {
+    let mut text = put_together(
+        alloc,
+        b"seccert 1 k=1 signals=3\n".as_slice(),
+        b"class l1 r1\nbase r1\n".as_slice(),
+        base,
+    )?;
+    text.extend_from_slice(b"step r1\n-2 0 3 8 5 11 9 0\n0 12 4 7 6 11 10 0\nend\n".as_slice())?;
+    is_yes(alloc, product, text.as_slice())
+}
+
+#[test]
+fn lines_that_nothing_hints_go_and_the_others_are_renumbered(rt: HostRuntime) -> Result<(), Fail> {
+    let alloc = rt.alloc();
+    let Ok(product) = two_toggles(alloc) else {
+        assert!(rt; false);
+        return Ok(());
+    };
+    for (whole, kept) in [
+        (b"0 6 2 3 4 0\n".as_slice(), b"0 6 2 3 4 0\n".as_slice()),
+        (
+            b"-2 0 2 0\n0 6 2 3 4 0\n".as_slice(),
+            b"0 6 2 3 4 0\n".as_slice(),
+        ),
+        (
+            b"-2 0 2 0\n-3 0 3 0\n-3 0 8 0\n-2 0 7 0\n0 6 2 9 4 0\n".as_slice(),
+            b"-3 0 3 0\n-3 0 7 0\n0 6 2 8 4 0\n".as_slice(),
+        ),
+    ] {
+        let Ok(text) = trimmed_text(alloc, whole) else {
+            assert!(rt; false);
+            return Ok(());
+        };
+        assert!(rt; text.as_slice() == kept);
+        assert!(rt; is_yes_with(alloc, &product, whole)?);
+        assert!(rt; is_yes_with(alloc, &product, kept)?);
     }
     Ok(())
 }

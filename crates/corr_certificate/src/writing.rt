@@ -1,10 +1,11 @@
 //! Writing a certificate: the classes, and for each needed pair the logs of its two questions, which are solved again. The
-//! frames are made once, and lent to each question. This module alone uses the solver.
-ghost use Rattle.std.specs.Prelude.{◌≡◌, ◌<◌, ◌≤◌, ◌/◌, ◌-◌, ◌++◌, ◌∷◌, ℕ, List, IfOk, OnOk, codes, decimal, length};
+//! frames are made once, and lent to each question; the logs are trimmed. This module alone uses the solver.
+ghost use Rattle.std.specs.Prelude.{◌≡◌, ◌<◌, ◌≤◌, ◌/◌, ◌-◌, ◌++◌, ◌∷◌, ℕ, List, IfOk, OnOk, None, codes, decimal, length};
 ghost use Rattle.std.specs.List.{All};
 ghost use Rattle.circ_model.specs.Meaning.{places_of};
 ghost use Rattle.class_partition.specs.Classes.{ArePartition, IsNeeded, IsStable, least_of, needed};
-ghost use Rattle.frame_unroll.specs.Unrolled.{from_reset, after_classes};
+ghost use Rattle.frame_unroll.specs.Found.{asks, asking};
+ghost use Rattle.frame_unroll.specs.Unrolled.{clauses_of, from_reset, after_classes};
 ghost use Rattle.product_machine.specs.Signals.{signal_at};
 ghost use Rattle.sat_log.specs.Derivations.{IsAccepted, Line};
 ghost use Rattle.sat_log.specs.Lines.{AreLines};
@@ -12,12 +13,14 @@ ghost use Rattle.sat_log.specs.Texts.{HasText, log_text};
 ghost use Rattle.class_text.specs.ClassLines.{name_of};
 ghost use Rattle.corr_certificate.specs.Certificate.{IsSupported, PairOutputs};
 ghost use Rattle.corr_certificate.specs.Parts.{base_formula, step_formula};
+ghost use Rattle.corr_certificate.specs.Trimming.{IsTrimmed};
 ghost use Rattle.corr_certificate.specs.Writing.{head_text, AreFrames, AreProved, AddsMember, AddsMembers, IsCertificate};
 
+use crate::trimming::trimmed;
 use circ_model::{Lit, Signal};
 use class_partition::Classes;
 use class_text::{push_class_lines, push_name};
-use frame_unroll::{Found, Prepared};
+use frame_unroll::{Found, Prepared, Unrolled};
 use itoa::Buffer;
 use product_machine::Product;
 use sat_log::{Log, write_log};
@@ -59,53 +62,102 @@ fn literals_of(classes: &Classes, place: u32) -> (Lit, Lit)
     (Lit::of(rep, false), Lit::of(place, sign))
 }
 
-// The frames of the two questions: k from reset, and k + 1 in all but the last of which the classes hold.
+// The frames of the two questions: k from reset, and k + 1 in all but the last of which the classes hold. Beside them the
+// numbers of clauses that they have with a question.
 #[derive(Drop)]
 struct Frames<'p> {
     base: Prepared<'p>,
     step: Prepared<'p>,
+    base_clauses: u64,
+    step_clauses: u64,
 }
 
-// The log that no run has a place and its class's least place apart in its first k frames.
+// How many clauses frames have with a question over some of them, whichever its literals are.
+fn clauses_asked(
+    alloc: Global,
+    frames: &mut Unrolled<'_>,
+    first: u32,
+    last: u32,
+) -> Result<u64, AllocError>
+    requires none { frames.old.asked ≡ None }
+    requires order { first ≤ last }
+    requires within { last < frames.old.frames }
+    ensures count { IfOk result (λ n. (a b : ℕ) → n ≡ length (clauses_of (asking frames.old (asks a b first last)))) }
+    ensures frames { IfOk result (λ n. frames.new ≡ frames.old) }
+{
+    let constant = Lit::of(0, false);
+    frames.ask(alloc, constant, constant, first, last)?;
+    let count = frames.cnf().len();
+    frames.drop_question();
+    Ok(count)
+}
+
+// Makes the frames.
+fn frames_of<'p>(
+    alloc: Global,
+    product: &'p Product,
+    k: u32,
+    classes: &Classes,
+) -> Result<Frames<'p>, AllocError>
+    requires some { 0 < k }
+    requires few { k ≤ 16 }
+    requires places { length classes.now.least ≡ places_of product.now }
+    ensures { IfOk result (λ frames. AreFrames product.entry.now k classes.now frames.base frames.step frames.base_clauses frames.step_clauses) }
+{
+    let mut base = Unrolled::reset_frames(alloc, product, k)?;
+    let base_clauses = clauses_asked(alloc, &mut base, 0, k - 1)?;
+    let mut step = Unrolled::step_frames(alloc, product, k, classes)?;
+    let step_clauses = clauses_asked(alloc, &mut step, k, k)?;
+    Ok(Frames {
+        base: Prepared::new(alloc, base)?,
+        step: Prepared::new(alloc, step)?,
+        base_clauses,
+        step_clauses,
+    })
+}
+
+// The log, trimmed, that no run has a place and its class's least place apart in its first k frames.
 fn base_log(
     alloc: Global,
     product: &Product,
     k: u32,
     classes: &Classes,
-    frames: &Prepared,
+    frames: &Frames,
     place: u32,
 ) -> Result<Log, AllocError>
     requires proved { AreProved product.now k classes.now }
-    requires frames { frames.now ≡ from_reset product.now k }
+    requires frames { AreFrames product.now k classes.now frames.now.base frames.now.step frames.now.base_clauses frames.now.step_clauses }
     requires place { place < places_of product.now }
-    ensures { IfOk result (IsAccepted (base_formula product.now k classes.now place)) }
+    ensures accepted { IfOk result (IsAccepted (base_formula product.now k classes.now place)) }
+    ensures trimmed { IfOk result (IsTrimmed (length (base_formula product.now k classes.now place).clauses)) }
 {
     let _places = product.len();
     let (a, b) = literals_of(classes, place);
-    match frames.find(alloc, a, b, 0, k - 1)? {
-        Found::None(log) => Ok(log),
+    match frames.base.find(alloc, a, b, 0, k - 1)? {
+        Found::None(log) => trimmed(alloc, frames.base_clauses, &log),
         Found::Path(_seen) => unreachable!(),
     }
 }
 
-// The log that no path has them apart after k frames in which the classes hold.
+// The log, trimmed, that no path has them apart after k frames in which the classes hold.
 fn step_log(
     alloc: Global,
     product: &Product,
     k: u32,
     classes: &Classes,
-    frames: &Prepared,
+    frames: &Frames,
     place: u32,
 ) -> Result<Log, AllocError>
     requires proved { AreProved product.now k classes.now }
-    requires frames { frames.now ≡ after_classes product.now k classes.now }
+    requires frames { AreFrames product.now k classes.now frames.now.base frames.now.step frames.now.base_clauses frames.now.step_clauses }
     requires place { place < places_of product.now }
-    ensures { IfOk result (IsAccepted (step_formula product.now k classes.now place)) }
+    ensures accepted { IfOk result (IsAccepted (step_formula product.now k classes.now place)) }
+    ensures trimmed { IfOk result (IsTrimmed (length (step_formula product.now k classes.now place).clauses)) }
 {
     let _places = product.len();
     let (a, b) = literals_of(classes, place);
-    match frames.find(alloc, a, b, k, k)? {
-        Found::None(log) => Ok(log),
+    match frames.step.find(alloc, a, b, k, k)? {
+        Found::None(log) => trimmed(alloc, frames.step_clauses, &log),
         Found::Path(_seen) => unreachable!(),
     }
 }
@@ -139,14 +191,14 @@ fn push_member(
     text: &mut Vec<u8>,
 ) -> Result<(), AllocError>
     requires proved { AreProved product.now k classes.now }
-    requires frames { AreFrames product.now k classes.now frames.now.base frames.now.step }
+    requires frames { AreFrames product.now k classes.now frames.now.base frames.now.step frames.now.base_clauses frames.now.step_clauses }
     requires place { place < places_of product.now }
     ensures { OnOk result (AddsMember product.now k classes.now place text.old.items text.new.items) }
 {
     let signal = product.signal(place);
-    let base = base_log(alloc, product, k, classes, &frames.base, place)?;
+    let base = base_log(alloc, product, k, classes, frames, place)?;
     push_part(b"base ", signal, &base, text)?;
-    let step = step_log(alloc, product, k, classes, &frames.step, place)?;
+    let step = step_log(alloc, product, k, classes, frames, place)?;
     push_part(b"step ", signal, &step, text)?;
     Ok(())
 }
@@ -161,7 +213,7 @@ fn push_members(
     text: &mut Vec<u8>,
 ) -> Result<(), AllocError>
     requires proved { AreProved product.now k classes.now }
-    requires frames { AreFrames product.now k classes.now frames.now.base frames.now.step }
+    requires frames { AreFrames product.now k classes.now frames.now.base frames.now.step frames.now.base_clauses frames.now.step_clauses }
     ensures { OnOk result (AddsMembers product.now k classes.now text.old.items text.new.items) }
 {
     for place in 0..product.len() {
@@ -186,16 +238,13 @@ fn text_of(
     let mut text = Vec::new(alloc);
     push_head(product, k, &mut text)?;
     push_class_lines(alloc, product, classes, &mut text)?;
-    let frames = Frames {
-        base: Prepared::reset_frames(alloc, product, k)?,
-        step: Prepared::step_frames(alloc, product, k, classes)?,
-    };
+    let frames = frames_of(alloc, product, k, classes)?;
     push_members(alloc, product, k, classes, &frames, &mut text)?;
     Ok(text)
 }
 
 /// The certificate of classes that are a correspondence for k and pair all outputs: it supports the pair, so reading it finds
-/// no fault. It errs for want of memory alone.
+/// no fault. Each log in it is trimmed. It errs for want of memory alone.
 pub fn write_cert(
     alloc: Global,
     product: &Product,

@@ -1,4 +1,6 @@
 pub mod Proving
 pub mod Beginning
 pub mod Splitting
+pub mod SimSplitting
+pub mod OpenedFrames
 pub mod Rounds

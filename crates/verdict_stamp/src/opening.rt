@@ -1,40 +1,24 @@
 //! The opening of a refinement: one class of all places, split by the first frames of 64 runs. What splits there needs no
 //! question to the solver.
 ghost use Rattle.std.specs.Prelude.{◌≡◌, ◌<◌, ◌≤◌, IfOk};
-ghost use Rattle.sim_words.specs.Simulation.{HasFrame};
+ghost use Rattle.verdict_stamp.specs.Opening.{AreFramesThatAdd, AreOpened};
 
-use crate::vector::Vector;
 use crate::version::Version;
 use product_machine::Product;
 use sim_words::{SimState, Stimulus};
 use std::alloc::{AllocError, Global};
 
-// Splits by each lane of a frame.
-fn split_by_lanes(
-    alloc: Global,
-    sim: &SimState<'_>,
-    version: &mut Version<'_>,
-) -> Result<(), AllocError>
-    requires pair { sim.now.pair ≡ version.old.pair }
-    requires frame { HasFrame sim.now.frame }
-    ensures product { version.new.pair ≡ version.old.pair }
-    ensures k { version.new.k ≡ version.old.k }
-{
-    for run in 0..64 {
-        let vector = Vector::of_lane(alloc, version.product(), version.k(), sim, run)?;
-        version.split_by(&vector);
-    }
-    Ok(())
-}
-
 impl<'p> Version<'p> {
     /// The first version, split by frames 0 to 15 of 64 runs, whose free latches and inputs are the words of a stimulus with
-    /// seed 1: first a word for each free latch, then for each frame a word for each input.
+    /// seed 1: first a word for each free latch, then for each frame a word for each input. Places are together exactly where
+    /// they are equal, each with its phase, in all these frames; the number counts the frames that added classes.
     pub fn opening(alloc: Global, product: &'p Product, k: u32) -> Result<Version<'p>, AllocError>
         requires some { 0 < k }
         requires few { k ≤ 16 }
         ensures product { IfOk result (λ v. v.pair ≡ product.entry.now) }
         ensures k { IfOk result (λ v. v.k ≡ k) }
+        ensures classes { IfOk result (λ v. AreOpened product.entry.now 16 v.classes) }
+        ensures number { IfOk result (λ v. AreFramesThatAdd product.entry.now 16 v.number) }
     {
         let mut version = Version::first(alloc, product, k)?;
         let mut sim = SimState::new(alloc, product)?;
@@ -46,7 +30,7 @@ impl<'p> Version<'p> {
         for frame in 0..16u32 {
             stimulus.fill(inputs.as_mut_slice());
             sim.step(inputs.as_slice());
-            split_by_lanes(alloc, &sim, &mut version)?;
+            version.split_by_sim(alloc, &sim)?;
         }
         Ok(version)
     }

@@ -120,6 +120,28 @@ fn pairs_have_these_classes(rt: HostRuntime) -> Result<(), Fail> {
     Ok(())
 }
 
+#[test]
+fn openings_tell_apart_what_the_first_frames_do(rt: HostRuntime) -> Result<(), Fail> {
+    let alloc = rt.alloc();
+    for (left, right, number, count, least) in [
+        (1, 1, 1, 2, [0, 1, 1, 9, 9, 9, 9, 9]),
+        (0, 3, 2, 4, [0, 1, 2, 3, 0, 9, 9, 9]),
+        // frame 0 tells the inputs and their product apart, and frame 1 the latches
+        (4, 5, 2, 7, [0, 1, 2, 3, 4, 5, 5, 7]),
+    ] {
+        match pair_of(alloc, left, right) {
+            Ok(product) => {
+                let version = Version::opening(alloc, &product, 1)?;
+                let classes = version.classes();
+                assert!(rt; table_of(classes) == least && classes.count() == count);
+                assert!(rt; version.number() == number && version.k() == 1);
+            }
+            Err(_) => assert!(rt; false),
+        }
+    }
+    Ok(())
+}
+
 // A row's bits as a number, lowest first.
 fn number_of(row: &BitRow) -> u32 {
     let mut bits = 0;

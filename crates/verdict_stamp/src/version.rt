@@ -1,8 +1,11 @@
 //! A version: classes on the way to those of the greatest correspondence. It is plain data; a split takes no memory.
-ghost use Rattle.std.specs.Prelude.{◌≡◌, ◌<◌, ◌≤◌, ◌+◌, ℕ, List, Bool, IfOk, length, map};
+ghost use Rattle.std.specs.Prelude.{◌≡◌, ◌<◌, ◌≤◌, ◌+◌, ℕ, List, Bool, IfOk, OnOk, OnErr, length, map};
 ghost use Rattle.circ_model.specs.Meaning.{latches_of, places_of, resets};
 ghost use Rattle.circ_model.specs.Runs.{first_bit, phases};
 ghost use Rattle.class_partition.specs.Classes.{HoldIn, class_count, split_of};
+ghost use Rattle.class_partition.specs.Words.{rows_of, split_of_words, splits_of};
+ghost use Rattle.sim_words.specs.Lanes.{lane};
+ghost use Rattle.sim_words.specs.Simulation.{HasFrame};
 ghost use Rattle.verdict_stamp.specs.Versions.{IsVersion, first_version};
 
 use crate::vector::Vector;
@@ -10,6 +13,7 @@ use bit_rows::BitRow;
 use circ_model::Reset;
 use class_partition::Classes;
 use product_machine::Product;
+use sim_words::SimState;
 use std::alloc::{AllocError, Global};
 use std::marker::Model;
 
@@ -154,5 +158,27 @@ impl<'p> Version<'p> {
         let added = self.partition.split_by(bits);
         self.splits += one_of(added);
         added
+    }
+
+    /// Splits the classes by the 64 lanes of a simulation of the same pair that has a frame, each of which is that frame of a
+    /// run, and answers how many classes that adds. The number rises by one exactly where that is some. An error leaves the
+    /// version as it was.
+    pub fn split_by_sim(&mut self, alloc: Global, sim: &SimState<'_>) -> Result<u32, AllocError>
+        requires pair { sim.now.pair ≡ self.old.pair }
+        requires frame { HasFrame sim.now.frame }
+        ensures product { self.new.pair ≡ self.old.pair }
+        ensures k { self.new.k ≡ self.old.k }
+        ensures split { OnOk result (self.new.classes ≡ split_of_words (places_of self.old.pair) self.old.classes sim.now.words) }
+        ensures rows { OnOk result (self.new.classes ≡ splits_of (places_of self.old.pair) self.old.classes (rows_of sim.now.words)) }
+        ensures count { IfOk result (λ added. class_count (places_of self.old.pair) self.new.classes ≡ class_count (places_of self.old.pair) self.old.classes + added) }
+        ensures number { IfOk result (λ added. 0 < added → self.new.number ≡ self.old.number + 1) }
+        ensures none { IfOk result (λ added. added ≡ 0 → (self.new ≡ self.old) × ((b : ℕ) → b < 64 → HoldIn (places_of self.old.pair) self.old.classes (lane b sim.now.words))) }
+        ensures err { OnErr result (self.new ≡ self.old) }
+    {
+        let _frame = sim.frame();
+        let _places = self.product.len();
+        let more = self.partition.split_by_words(alloc, sim.words())?;
+        self.splits += one_of(more);
+        Ok(more)
     }
 }

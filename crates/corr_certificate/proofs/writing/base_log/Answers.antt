@@ -1,9 +1,20 @@
+use Rattle.std.proofs.Common.{ℕ}
+use Rattle.corr_certificate.specs.Parts.{base_formula}
+use Rattle.corr_certificate.proofs.Kept.{trimmed_accepted, trimmed_over}
 use Rattle.corr_certificate.proofs.Unseen.{base_accepted, no_base_path}
 use Rattle.corr_certificate.proofs.writing.base_log.Goals as goal
 
 pub unreachable-requires : goal.unreachable-requires
 unreachable-requires c =
-    no_base_path c.args.product.now c.args.k c.args.classes.now c.args.place c.args.frames.now c.literals_of-a.result c.in_ok-log.field-0 c.in-Path._seen c.requires.proved.some c.requires.proved.stable c.requires.place c.requires.frames c.literals_of-a.ensures c.in-Path.is c.in_ok-log.ensures
+    no_base_path c.args.product.now c.args.k c.args.classes.now c.args.place c.args.frames.now.base c.literals_of-a.result c.in_ok-log.field-0 c.in-Path._seen c.requires.proved.some c.requires.proved.stable c.requires.place c.requires.frames.base_is c.literals_of-a.ensures c.in-Path.is c.in_ok-log.ensures
 
-pub returns : goal.returns
-returns c = base_accepted c.args.product.now c.args.k c.args.classes.now c.args.place c.args.frames.now c.literals_of-a.result c.in_ok-log.field-0 c.in-None.log c.requires.frames c.literals_of-a.ensures c.in-None.is c.in_ok-log.ensures
+pub returns-clause-accepted : goal.returns-clause-accepted
+returns-clause-accepted c =
+    let place : ℕ = c.args.place in
+    trimmed_accepted (base_formula c.args.product.now c.args.k c.args.classes.now place) c.args.frames.now.base_clauses c.in-None.log c.trimmed.result (c.requires.frames.base_count place)
+    (base_accepted c.args.product.now c.args.k c.args.classes.now c.args.place c.args.frames.now.base c.literals_of-a.result c.in_ok-log.field-0 c.in-None.log c.requires.frames.base_is c.literals_of-a.ensures c.in-None.is c.in_ok-log.ensures) c.trimmed.ensures.accepted
+
+pub returns-clause-trimmed : goal.returns-clause-trimmed
+returns-clause-trimmed c =
+    let place : ℕ = c.args.place in
+    trimmed_over (base_formula c.args.product.now c.args.k c.args.classes.now place) c.args.frames.now.base_clauses c.trimmed.result (c.requires.frames.base_count place) c.trimmed.ensures.trimmed

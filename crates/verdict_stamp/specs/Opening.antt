@@ -1,0 +1,61 @@
+-- The opening: what the first 16 frames of 64 runs tell apart.
+use Rattle.std.specs.Prelude.{◌≡◌, ◌↔◌, ℕ, ◌+◌, ◌*◌, ◌<◌, List, length, map, Bool, MatchBool, slice_index_or, count_by}
+use Rattle.std.specs.List.{range_with_len}
+use Rattle.rand_core.specs.Pcg32Seed.{pcg32_seed}
+use Rattle.rand_core.specs.Steps.{first_words}
+use Rattle.rand_pcg.specs.Lcg.{Lcg}
+use Rattle.rand_pcg.specs.Pcg.{pcg64, pcg64_of_seed}
+use Rattle.circ_model.specs.declared.netlist.Reset.TheVariants.{Free}
+use Rattle.circ_model.specs.Meaning.{Pair, Path, bit, signed, latches_of, places_of, resets, row_at}
+use Rattle.circ_model.specs.Runs.{phases}
+use Rattle.class_partition.specs.Classes.{Classes, ArePartition, AreTogether}
+use Rattle.sim_words.specs.Lanes.{lane}
+use Rattle.sim_words.specs.Simulation.{free_before, free_count, start_bit}
+use Rattle.sim_words.specs.Stimulus.{after_words}
+
+-- the generator of a stimulus with seed 1
+unfoldable pub seeded : Lcg
+seeded = pcg64_of_seed (pcg32_seed 32 1)
+
+-- its words: first one for each free latch, in the order of the state, then for each frame one for each input
+abbrev pub free_words : Pair → List ℕ
+free_words pair = first_words pcg64 (free_count pair) seeded
+
+abbrev pub input_words : Pair → ℕ → List ℕ
+input_words pair t = first_words pcg64 (length pair.left.inputs) (after_words (free_count pair + t * length pair.left.inputs) seeded)
+
+-- what a latch starts with in run b: a free one with bit b of its word
+abbrev pub start_in : Pair → ℕ → ℕ → Bool
+start_in pair b i = start_bit (slice_index_or (resets pair) i Free) (bit (lane b (free_words pair)) (free_before pair i))
+
+-- run b has bit b of each word
+unfoldable pub opening_run : Pair → ℕ → Path
+opening_run pair b = record { start = map (start_in pair b) (range_with_len 0 (latches_of pair)); inputs = map (λ t. lane b (input_words pair t)) (range_with_len 0 16) }
+
+-- a place's bit in frame t of run b, complemented by its phase
+abbrev pub phased_bit : Pair → ℕ → ℕ → ℕ → Bool
+phased_bit pair b t p = signed (bit (phases pair) p) (bit (row_at pair (opening_run pair b) t) p)
+
+-- two places are equal, each with its phase, in frame t of all 64 runs; and in all of the first n frames
+abbrev pub EqualIn : Pair → ℕ → ℕ → ℕ → Type 0
+EqualIn pair t p q = (b : ℕ) → b < 64 → phased_bit pair b t p ≡ phased_bit pair b t q
+
+abbrev pub EqualBelow : Pair → ℕ → ℕ → ℕ → Type 0
+EqualBelow pair n p q = (t : ℕ) → t < n → EqualIn pair t p q
+
+-- the classes of the places that are equal in the first n frames
+pub record AreOpened (pair : Pair) (n : ℕ) (classes : Classes) : Type 0 where
+  pub partition : ArePartition (places_of pair) classes
+  pub phase : classes.phase ≡ phases pair
+  pub together : (p q : ℕ) → p < places_of pair → q < places_of pair → AreTogether classes p q ↔ EqualBelow pair n p q
+
+-- frame t adds classes: it tells two places apart that are equal in all frames before it
+abbrev pub AddsClasses : Pair → ℕ → Type 0
+AddsClasses pair t = (p q : ℕ) × (p < places_of pair) × (q < places_of pair) × EqualBelow pair t p q × (EqualIn pair t p q → ⊥)
+
+-- so many of the first n frames add classes
+abbrev pub AreFramesThatAdd : Pair → ℕ → ℕ → Type 0
+AreFramesThatAdd pair n number =
+    (adds : List Bool) × (length adds ≡ n)
+    × ((t : ℕ) → t < n → MatchBool (bit adds t) (AddsClasses pair t) (AddsClasses pair t → ⊥))
+    × (count_by (λ b. b) adds ≡ number)
