@@ -2,7 +2,7 @@
 ghost use Rattle.std.specs.Prelude.{◌≤◌, ◌≡◌, IfOk, is_some};
 ghost use Rattle.circ_model.specs.Meaning.{IsSoundPair};
 ghost use Rattle.demo_pair.specs.Demo.{IsDemo};
-ghost use Rattle.sec_cli.specs.Answers.{IsDemoAnswer, is_refined};
+ghost use Rattle.sec_cli.specs.Answers.{IsDemoAnswer, check_of_demo, is_refined};
 ghost use Rattle.sec_cli.specs.Words.{IsDemoOf};
 
 use crate::checking::check_pair;
@@ -28,6 +28,22 @@ fn demo_product(alloc: Global, n: u32) -> Result<Product, AllocError>
     }
 }
 
+// The check of a demo's pair.
+fn check_of(d: &Demo) -> Check
+    ensures { result ≡ check_of_demo d.now }
+{
+    Check {
+        left: 0,
+        right: 0,
+        k: d.k,
+        workers: d.workers,
+        classes: false,
+        stats: false,
+        trace: None,
+        cert: None,
+    }
+}
+
 /// The line of the demo of a size, and the verdict of its pair.
 pub(crate) fn demo_answer<R: Threads + Wait + Sync, G: Gate>(
     rt: &R,
@@ -41,16 +57,7 @@ pub(crate) fn demo_answer<R: Threads + Wait + Sync, G: Gate>(
     ensures journal { IfOk result (λ a. is_some a.journal ≡ is_refined a.status) }
 {
     let product = demo_product(alloc, d.n)?;
-    let check = Check {
-        left: 0,
-        right: 0,
-        k: d.k,
-        workers: d.workers,
-        classes: false,
-        stats: false,
-        trace: None,
-        cert: None,
-    };
+    let check = check_of(d);
     let line = demo_line(alloc, d.n)?;
     let mut text = Vec::from_slice(alloc, line.as_bytes())?;
     let answer = check_pair(rt, alloc, &product, &check, gate)?;
