@@ -1,7 +1,7 @@
 //! The program `sec`: the words, files and streams of the system, handed to the library's `run`.
 #![tactic(auto)]
 
-use sec_base::{FsShelf, OutSink};
+use sec_base::{FreeGate, FsShelf, OutSink};
 use sec_cli::run;
 use std::process::ExitCode;
 use std::{env, io};
@@ -16,6 +16,8 @@ fn main(rt: HostRuntime) -> io::Result<ExitCode> {
     let mut shelf = FsShelf::new(&rt);
     let mut out = OutSink::new(io::writer(&rt));
     let mut err = OutSink::new(rt.stderr());
-    let report = run(alloc, &words, &mut shelf, &mut out, &mut err);
+    let report = run(
+        &rt, alloc, &words, &mut shelf, &mut out, &mut err, &FreeGate,
+    );
     Ok(ExitCode::from(report.status))
 }

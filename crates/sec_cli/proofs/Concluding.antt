@@ -1,15 +1,16 @@
 -- What follows from what became of an ending.
-use Rattle.std.proofs.Common.{◌≡◌, ◌≢◌, ◌≤◌, ◌∙◌, ℕ, List, [], Bool, Option, None, Some, IfOk, IsSomeAnd, Ok, Err, inl, inr, refl, ap, sym, subst, arith}
+use Rattle.std.proofs.Common.{◌≡◌, ◌≢◌, ◌≤◌, ◌∙◌, ℕ, List, [], Bool, Option, None, Some, is_some, IfOk, IsSomeAnd, Ok, Err, inl, inr, refl, ap, sym, subst, arith}
 use Rattle.std.proofs.lemmas.Bool.{ne_eqb}
 use Rattle.sec_base.specs.Faults.{appended}
 use Rattle.sec_base.proofs.Pieces.{appended_none}
+use Rattle.refine_board.specs.Running.{Written}
 use Rattle.sec_cli.specs.declared.ending.Unpaired.{Unpaired}
 use Rattle.sec_cli.specs.declared.ending.Unpaired.TheVariants as unpaired
 use Rattle.sec_cli.specs.declared.ending.Refusal.{Refusal}
 use Rattle.sec_cli.specs.declared.ending.Refusal.TheVariants as refusals
 use Rattle.sec_cli.specs.declared.words.Command.{Command}
 use Rattle.sec_cli.specs.declared.words.Command.TheVariants as commands
-use Rattle.sec_cli.specs.Endings.{Ending, IsLoadFailed, IsLoadEnding, failed_side, failed_names, left_name, right_name, third_name}
+use Rattle.sec_cli.specs.Endings.{Ending, IsLoadFailed, IsLoadEnding, refines, journal_of, failed_side, failed_names, left_name, right_name, third_name}
 use Rattle.sec_cli.specs.Texts.{memory_text}
 use Rattle.sec_cli.specs.Reports.{World, IsReport, IsStored, IsToldIn, unpaired_status, unpaired_text, refusal_status, refusal_text, store_place, name_at}
 use Rattle.sec_cli.specs.Runs.{Ended, IsAnswered, IsRefused, IsUnread, IsUnwritten}
@@ -85,12 +86,12 @@ no_place (commands.Demo d) status h = refl
 no_place (commands.Check c) status h = let d = ne_eqb status 1 (λ e. omega (arith, h, e)) in let q = ne_eqb status 0 (λ e. omega (arith, h, e)) in rw d (rw q refl)
 
 -- the clauses of a run, for each ending
-pub answered : (tells : Bool) (words : List (List ℕ)) (c : Command) (e : Ending) (before after : World) (status : ℕ) → IfOk e (λ a. a.status ≤ 2) → Ended tells before.files words c e → IsReport tells words c e before after status → status ≤ 2
-    → IsAnswered tells words c status before after
-answered tells words c (Ok a) before after status low ended (inl (is, p)) le = record { answer = a; ended = ended; status_is = sym is; stored = p.stored; printed = p.printed }
-answered tells words c (Ok a) before after status low ended (inr (inl (six, p))) le = absurd (omega (arith, six, le))
-answered tells words c (Ok a) before after status low ended (inr (inr (seven, p))) le = absurd (omega (arith, seven, le))
-answered tells words c (Err r) before after status low ended (is, p) le = absurd (omega (arith, is, (refusal_high r).0, le))
+pub answered : (tells : Bool) (words : List (List ℕ)) (c : Command) (e : Ending) (journal : Option Written) (before after : World) (status : ℕ) → IfOk e (λ a. a.status ≤ 2) → IfOk e (λ a. is_some a.journal ≡ refines c a.status) → journal ≡ journal_of e → Ended tells before.files words c e → IsReport tells words c e before after status → status ≤ 2
+    → IsAnswered tells words c status journal before after
+answered tells words c (Ok a) journal before after status low has from ended (inl (is, p)) le = record { answer = a; ended = ended; status_is = sym is; journal_is = sym from; refined = ap is_some from ∙ has ∙ ap (refines c) (sym is); stored = p.stored; printed = p.printed }
+answered tells words c (Ok a) journal before after status low has from ended (inr (inl (six, p))) le = absurd (omega (arith, six, le))
+answered tells words c (Ok a) journal before after status low has from ended (inr (inr (seven, p))) le = absurd (omega (arith, seven, le))
+answered tells words c (Err r) journal before after status low has from ended (is, p) le = absurd (omega (arith, is, (refusal_high r).0, le))
 
 pub quiet : (tells : Bool) (words : List (List ℕ)) (c : Command) (e : Ending) (before after : World) (status : ℕ) → IsReport tells words c e before after status → status ≤ 2 → after.err ≡ before.err
 quiet tells words c (Ok a) before after status (inl (is, p)) le = p.quiet
@@ -119,12 +120,19 @@ is_load tells words c (Ok a) before after status low (inr (inl (six, p))) five =
 is_load tells words c (Ok a) before after status low (inr (inr (seven, p))) five = absurd (omega (arith, seven, five))
 is_load tells words c (Err r) before after status low (is, p) five = refusal_load r (sym is ∙ five)
 
-pub unwritten : (tells : Bool) (words : List (List ℕ)) (c : Command) (e : Ending) (before after : World) (status : ℕ) → IfOk e (λ a. a.status ≤ 2) → Ended tells before.files words c e → IsReport tells words c e before after status → status ≡ 6
-    → IsUnwritten tells words c before after
-unwritten tells words c (Ok a) before after status low ended (inl (is, p)) six = absurd (omega (arith, is, low, six))
-unwritten tells words c (Ok a) before after status low ended (inr (inl (is, p))) six = record { answer = a; ended = ended; failed = p }
-unwritten tells words c (Ok a) before after status low ended (inr (inr (seven, p))) six = absurd (omega (arith, seven, six))
-unwritten tells words c (Err r) before after status low ended (is, p) six = absurd ((refusal_high r).1 (sym is ∙ six))
+pub unwritten : (tells : Bool) (words : List (List ℕ)) (c : Command) (e : Ending) (journal : Option Written) (before after : World) (status : ℕ) → IfOk e (λ a. a.status ≤ 2) → IfOk e (λ a. is_some a.journal ≡ refines c a.status) → journal ≡ journal_of e → Ended tells before.files words c e → IsReport tells words c e before after status → status ≡ 6
+    → IsUnwritten tells words c journal before after
+unwritten tells words c (Ok a) journal before after status low has from ended (inl (is, p)) six = absurd (omega (arith, is, low, six))
+unwritten tells words c (Ok a) journal before after status low has from ended (inr (inl (is, p))) six = record { answer = a; ended = ended; journal_is = sym from; refined = ap is_some from ∙ has; failed = p }
+unwritten tells words c (Ok a) journal before after status low has from ended (inr (inr (seven, p))) six = absurd (omega (arith, seven, six))
+unwritten tells words c (Err r) journal before after status low has from ended (is, p) six = absurd ((refusal_high r).1 (sym is ∙ six))
+
+pub no_journal : (tells : Bool) (words : List (List ℕ)) (c : Command) (e : Ending) (journal : Option Written) (before after : World) (status : ℕ) → IfOk e (λ a. a.status ≤ 2) → journal ≡ journal_of e → IsReport tells words c e before after status → 3 ≤ status → status ≤ 5
+    → journal ≡ None
+no_journal tells words c (Ok a) journal before after status low from (inl (is, p)) high le = absurd (omega (arith, is, low, high))
+no_journal tells words c (Ok a) journal before after status low from (inr (inl (six, p))) high le = absurd (omega (arith, six, le))
+no_journal tells words c (Ok a) journal before after status low from (inr (inr (seven, p))) high le = absurd (omega (arith, seven, le))
+no_journal tells words c (Err r) journal before after status low from report high le = from
 
 pub told_memory : (tells : Bool) (words : List (List ℕ)) (c : Command) (e : Ending) (before after : World) (status : ℕ) → IfOk e (λ a. a.status ≤ 2) → IsReport tells words c e before after status → status ≡ 7 → IsToldIn before after memory_text
 told_memory tells words c (Ok a) before after status low (inl (is, p)) seven = absurd (omega (arith, is, low, seven))

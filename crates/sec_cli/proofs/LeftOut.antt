@@ -5,7 +5,7 @@ use Rattle.std.specs.List.Sorted.{IsStrictlyIncreasing}
 use Rattle.std.proofs.lemmas.Bool.{cases_lt}
 use Rattle.std.proofs.lemmas.List.{get_or_append_left}
 use Rattle.std.proofs.lemmas.List.Elements.{Contains-append_left, Contains-push, Contains-push_cases}
-use Rattle.circ_model.specs.Meaning.{Pair}
+use Rattle.circ_model.specs.Meaning.{Pair, outputs_of}
 use Rattle.class_partition.specs.Classes.{Classes}
 use Rattle.class_partition.specs.Laws.{PairOutput}
 use Rattle.sec_cli.specs.Outputs.{AreLeftOut}
@@ -68,3 +68,7 @@ none_more pair classes j u out paired = record {
       (λ (ge : j ≤ i). let e : j ≡ i = omega (arith, lt, ge) in inr (subst (PairOutput pair classes) e paired))
       (cases_lt i j);
 }
+
+-- where none is left out all are paired
+pub all_paired : (pair : Pair) (classes : Classes) (u : List ℕ) → AreLeftOut pair classes (outputs_of pair) u → length u ≡ 0 → (j : ℕ) → j < outputs_of pair → PairOutput pair classes j
+all_paired pair classes u out none j lt = ⊎_elim (λ (h : Contains u j). let (i, less, e) = h in absurd (omega (arith, less, none))) (λ (paired : PairOutput pair classes j). paired) (out.others j lt)

@@ -1,6 +1,7 @@
 pub mod CutShort
 pub mod Naming
 pub mod Concluding
+pub mod Tallied
 pub mod LeftOut
 pub mod Verdicts
 pub mod Pairing

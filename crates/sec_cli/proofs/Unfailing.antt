@@ -1,6 +1,7 @@
 -- Where no store and no write fails, no answer stays unwritten.
 use Rattle.std.proofs.Common.{ℕ, List, Bool, Option, None, Some, inl, inr, IsSomeAnd}
 use Rattle.sec_base.specs.Faults.{Rose}
+use Rattle.refine_board.specs.Running.{Written}
 use Rattle.sec_cli.specs.declared.words.Command.{Command}
 use Rattle.sec_cli.specs.Reports.{World, IsUnstoredAs}
 use Rattle.sec_cli.specs.Runs.{IsUnwritten, store_name}
@@ -9,9 +10,9 @@ stored_as : (name : Option (List ℕ)) (before after : World) → (Rose before.s
 stored_as None before after store u = u
 stored_as (Some name) before after store u = store u.rose
 
-pub all_written : (c : Option Command) (tells : Bool) (words : List (List ℕ)) (before after : World) → (Rose before.store_faults after.store_faults → ⊥) → (Rose before.out_faults after.out_faults → ⊥) → IsSomeAnd c (λ d. IsUnwritten tells words d before after) → ⊥
-all_written None tells words before after store out u = u
-all_written (Some c) tells words before after store out u =
+pub all_written : (c : Option Command) (tells : Bool) (words : List (List ℕ)) (journal : Option Written) (before after : World) → (Rose before.store_faults after.store_faults → ⊥) → (Rose before.out_faults after.out_faults → ⊥) → IsSomeAnd c (λ d. IsUnwritten tells words d journal before after) → ⊥
+all_written None tells words journal before after store out u = u
+all_written (Some c) tells words journal before after store out u =
     elim u.failed [
       | inl p ↦ out p.rose
       | inr q ↦ stored_as (store_name words c u.answer) before after store q

@@ -1,5 +1,5 @@
 -- What a command answers, once its files are accepted: a status and a text.
-use Rattle.std.specs.Prelude.{◌≡◌, ℕ, ◌+◌, false, List, [], ◌++◌, length, Option, Some, None, is_some, Ok, MatchBool}
+use Rattle.std.specs.Prelude.{◌≡◌, ℕ, ◌+◌, ◌==◌, Bool, not, false, List, [], ◌++◌, length, if◌then◌else◌, Option, Some, None, is_some, IsSomeAnd, Ok, MatchBool}
 use Rattle.circ_model.specs.Meaning.{Pair, Path, IsRun, places_of}
 use Rattle.circ_model.specs.Verdict.{Verdict, Equivalent, Different, Undecided, IsVerdict, IsFirstDifference, FirstDifference}
 use Rattle.corr_certificate.specs.Certificate.{IsSupported}
@@ -9,7 +9,12 @@ use Rattle.trace_witness.specs.Lines.{lines_of}
 use Rattle.trace_witness.specs.Texts.{trace_text, trace_of}
 use Rattle.trace_witness.specs.declared.read.Trace.{Trace}
 use Rattle.class_text.specs.ClassLines.{class_lines}
-use Rattle.sec_cli.specs.Texts.{equivalent_line, undecided_line, different_line, differs_line, agrees_line, verified_line, demo_line}
+use Rattle.verdict_stamp.specs.Versions.{Standing}
+use Rattle.refine_board.specs.declared.journal.Entry.{Entry}
+use Rattle.refine_board.specs.Running.{Written}
+use Rattle.split_workers.specs.Refined.{IsRefined}
+use Rattle.sec_cli.specs.Stats.{stats_of}
+use Rattle.sec_cli.specs.Texts.{equivalent_line, undecided_line, different_line, differs_line, agrees_line, stats_line, verified_line, demo_line}
 use Rattle.sec_cli.specs.declared.ending.Answer.{Answer}
 use Rattle.sec_cli.specs.declared.words.Check.{Check}
 use Rattle.sec_cli.specs.declared.words.Demo.{Demo}
@@ -27,6 +32,25 @@ AreClassLines pair c lines = MatchBool c.classes
     ((classes : Classes) × ArePartition (places_of pair) classes × AreOfGreatest pair c.k classes × (lines ≡ class_lines pair classes))
     (lines ≡ [])
 
+-- the journal of a refinement of this pair, by as many workers as are asked for
+abbrev pub IsJournalOf : Pair → Check → List Entry → Type 0
+IsJournalOf pair c entries = (version : Standing) × IsRefined pair c.k c.workers version entries
+
+-- the line of the journal's numbers, where it is asked for
+abbrev pub stats_lines : Check → List Entry → List ℕ
+stats_lines c entries = if c.stats then stats_line (stats_of entries) else []
+
+-- what is printed after a refinement: the verdict's line, the class lines, and the line of the journal's numbers
+pub record IsRefinedText (pair : Pair) (c : Check) (entries : List Entry) (line text : List ℕ) : Type 0 where
+  pub journal : IsJournalOf pair c entries
+  pub lines : List ℕ
+  pub are_classes : AreClassLines pair c lines
+  pub text_is : text ≡ (line ++ lines) ++ stats_lines c entries
+
+-- all verdicts but a difference come from a refinement
+abbrev pub is_refined : ℕ → Bool
+is_refined status = not (status == 1)
+
 -- a certificate of the greatest correspondence's classes, where it is asked for
 abbrev pub IsCertOf : Pair → Check → List ℕ → Type 0
 IsCertOf pair c file = MatchBool (is_some c.cert)
@@ -39,18 +63,18 @@ pub record ShowsDifference (pair : Pair) (frame output : ℕ) (run : Path) : Typ
   pub rows : length run.inputs ≡ frame + 1
   pub first : IsFirstDifference pair run frame output
 
--- what is printed of a verdict, and its file: the trace in it, or a certificate, or nothing
-abbrev pub IsVerdictText : Pair → Check → Verdict → List ℕ → List ℕ → Type 0
-IsVerdictText pair c (Equivalent n) text file = IsCertOf pair c file × ((lines : List ℕ) × AreClassLines pair c lines × (text ≡ equivalent_line c.k (places_of pair) n ++ lines))
-IsVerdictText pair c (Undecided n u) text file = (lines : List ℕ) × AreClassLines pair c lines × (text ≡ undecided_line c.k (places_of pair) n u ++ lines)
-IsVerdictText pair c (Different t j) text file = (run : Path) × ShowsDifference pair t j run × (file ≡ trace_text j run) × (text ≡ different_line c.k t j ++ file)
+-- what is printed of a verdict, its file, which is the trace in it, or a certificate, or nothing, and its journal
+abbrev pub IsVerdictText : Pair → Check → Verdict → List ℕ → List ℕ → Option Written → Type 0
+IsVerdictText pair c (Equivalent n) text file journal = IsCertOf pair c file × IsSomeAnd journal (λ j. IsRefinedText pair c j.entries (equivalent_line c.k (places_of pair) n) text)
+IsVerdictText pair c (Undecided n u) text file journal = IsSomeAnd journal (λ j. IsRefinedText pair c j.entries (undecided_line c.k (places_of pair) n u) text)
+IsVerdictText pair c (Different t j) text file journal = (run : Path) × ShowsDifference pair t j run × (file ≡ trace_text j run) × (text ≡ different_line c.k t j ++ file)
 
--- the verdict's status and text
-abbrev pub IsVerdictAnswer : Pair → Check → ℕ → List ℕ → List ℕ → Type 0
-IsVerdictAnswer pair c status text file = (v : Verdict) × IsVerdict pair c.k c.k v × (status ≡ status_of_verdict v) × IsVerdictText pair c v text file
+-- the verdict's status, text, file and journal
+abbrev pub IsVerdictAnswer : Pair → Check → ℕ → List ℕ → List ℕ → Option Written → Type 0
+IsVerdictAnswer pair c status text file journal = (v : Verdict) × IsVerdict pair c.k c.k v × (status ≡ status_of_verdict v) × IsVerdictText pair c v text file journal
 
 abbrev pub IsCheckAnswer : Pair → Check → Answer → Type 0
-IsCheckAnswer pair c answer = IsVerdictAnswer pair c answer.status answer.text.items answer.file.items
+IsCheckAnswer pair c answer = IsVerdictAnswer pair c answer.status answer.text.items answer.file.items answer.journal
 
 abbrev pub IsReplayText : Path → Option (ℕ × ℕ) → Answer → Type 0
 IsReplayText run (Some d) answer = (answer.status ≡ 1) × (answer.text.items ≡ differs_line d.0 d.1)
@@ -67,12 +91,12 @@ IsReplayAnswer pair bytes answer = (trace : Trace) × (trace_of pair (lines_of b
 abbrev pub IsVerifyAnswer : Pair → List ℕ → Answer → Type 0
 IsVerifyAnswer pair bytes answer = IsSupported pair bytes × (answer.status ≡ 0) × (answer.text.items ≡ verified_line)
 
--- a demo is checked as two files are, without class lines and stored files
+-- a demo is checked as two files are, without class lines, numbers of entries and stored files
 abbrev pub check_of_demo : Demo → Check
-check_of_demo d = record { left = 0; right = 0; k = d.k; workers = d.workers; classes = false; trace = None; cert = None }
+check_of_demo d = record { left = 0; right = 0; k = d.k; workers = d.workers; classes = false; stats = false; trace = None; cert = None }
 
 -- the line of the demo, and then the verdict of its pair
 abbrev pub IsDemoAnswer : Demo → Answer → Type 0
 IsDemoAnswer d answer =
     (left : Netlist) × (right : Netlist) × IsDemo d.n left right
-    × ((text : List ℕ) × IsVerdictAnswer (record { left = left; right = right }) (check_of_demo d) answer.status text answer.file.items × (answer.text.items ≡ demo_line d.n ++ text))
+    × ((text : List ℕ) × IsVerdictAnswer (record { left = left; right = right }) (check_of_demo d) answer.status text answer.file.items answer.journal × (answer.text.items ≡ demo_line d.n ++ text))

@@ -1,5 +1,5 @@
 -- How a run ends, before anything of it is written.
-use Rattle.std.specs.Prelude.{◌≡◌, ◌≢◌, ℕ, ◌<◌, ◌≤◌, ◌⊎◌, List, [], ◌∷◌, length, Option, IsSomeAnd, Result, Ok, Err}
+use Rattle.std.specs.Prelude.{◌≡◌, ◌≢◌, ℕ, ◌<◌, ◌≤◌, ◌⊎◌, List, [], ◌∷◌, length, Bool, false, Option, None, IsSomeAnd, Result, Ok, Err}
 use Rattle.circ_model.specs.Netlist.{Netlist}
 use Rattle.circ_model.specs.Meaning.{Pair, IsSoundPair}
 use Rattle.aiger_codec.specs.Lines.{fault}
@@ -10,7 +10,8 @@ use Rattle.corr_certificate.specs.Certificate.{IsChecked}
 use Rattle.corr_certificate.specs.declared.fault.Checked.TheVariants.{No}
 use Rattle.trace_witness.specs.Lines.{lines_of}
 use Rattle.trace_witness.specs.Texts.{trace_of}
-use Rattle.sec_cli.specs.Answers.{IsCheckAnswer, IsReplayAnswer, IsVerifyAnswer, IsDemoAnswer}
+use Rattle.refine_board.specs.Running.{Written}
+use Rattle.sec_cli.specs.Answers.{IsCheckAnswer, IsReplayAnswer, IsVerifyAnswer, IsDemoAnswer, is_refined}
 use Rattle.sec_cli.specs.Words.{word_at}
 use Rattle.sec_cli.specs.declared.words.Check.{Check}
 use Rattle.sec_cli.specs.declared.words.Demo.{Demo}
@@ -141,6 +142,17 @@ IsDemoEnding d (Err refusals.ThirdFailed) = ⊥
 IsDemoEnding d (Err refusals.ThirdTooLong) = ⊥
 IsDemoEnding d (Err (refusals.TraceRefused f)) = ⊥
 IsDemoEnding d (Err (refusals.CertRefused f)) = ⊥
+
+-- the answers of this status that come from a refinement
+abbrev pub refines : Command → ℕ → Bool
+refines (commands.Check c) status = is_refined status
+refines (commands.Replay c) status = false
+refines (commands.Verify c) status = false
+refines (commands.Demo d) status = is_refined status
+
+abbrev pub journal_of : Ending → Option Written
+journal_of (Ok a) = a.journal
+journal_of (Err r) = None
 
 -- how a run of these words, which are this command, ends over these files
 abbrev pub IsEnding : (List ℕ → Option (List ℕ)) → List (List ℕ) → Command → Ending → Type 0

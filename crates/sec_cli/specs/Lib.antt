@@ -1,4 +1,5 @@
 pub mod Words
+pub mod Stats
 pub mod Texts
 pub mod Outputs
 pub mod Answers

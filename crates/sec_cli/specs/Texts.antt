@@ -8,6 +8,7 @@ use Rattle.corr_certificate.specs.declared.fault.CertKind.{CertKind}
 use Rattle.corr_certificate.specs.declared.fault.CertKind.TheVariants as cert_kinds
 use Rattle.trace_witness.specs.declared.fault.TraceFault.{TraceFault}
 use Rattle.trace_witness.specs.Names.{name_of as name_of_trace_kind}
+use Rattle.sec_cli.specs.declared.counting.Stats.{Stats}
 
 abbrev pub equivalent_line : ℕ → ℕ → ℕ → List ℕ
 equivalent_line k signals classes = codes "equivalent k=" ++ (decimal k ++ (codes " signals=" ++ (decimal signals ++ (codes " classes=" ++ (decimal classes ++ codes "\n")))))
@@ -31,6 +32,13 @@ differs_line frame output = codes "differs frame=" ++ (decimal frame ++ (codes "
 
 abbrev pub agrees_line : ℕ → List ℕ
 agrees_line frames = codes "agrees frames=" ++ (decimal frames ++ codes "\n")
+
+-- the numbers of a journal's entries, in two halves
+abbrev pub stats_head : Stats → List ℕ
+stats_head s = codes "stats offers=" ++ (decimal s.offers ++ (codes " counted=" ++ (decimal s.counted ++ (codes " stale=" ++ decimal s.stale))))
+
+abbrev pub stats_line : Stats → List ℕ
+stats_line s = stats_head s ++ (codes " splits=" ++ (decimal s.splits ++ (codes " already=" ++ (decimal s.already ++ (codes " back=" ++ (decimal s.back ++ codes "\n"))))))
 
 abbrev pub verified_line : List ℕ
 verified_line = codes "verified\n"

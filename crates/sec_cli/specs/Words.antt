@@ -35,7 +35,7 @@ abbrev pub number_of : ℕ → List ℕ → Option ℕ
 number_of most word = number_within most word (number_at word 0)
 
 abbrev pub none_read : Reading
-none_read = record { first = None; second = None; third = None; k = None; workers = None; classes = false; trace = None; cert = None; waiting = Nothing }
+none_read = record { first = None; second = None; third = None; k = None; workers = None; classes = false; stats = false; trace = None; cert = None; waiting = Nothing }
 
 -- one more name
 abbrev pub named : Reading → ℕ → Option Reading
@@ -49,6 +49,7 @@ named r at =
 abbrev pub flag_read : Reading → ℕ → List ℕ → Option Reading
 flag_read r at word =
     if bytes_eq word (codes "--classes") then if r.classes then None else Some (record r { classes = true })
+    else if bytes_eq word (codes "--stats") then if r.stats then None else Some (record r { stats = true })
     else if is_name word then named r at
     else None
 
@@ -89,7 +90,7 @@ read_all (Some r) at (w ∷ ws) = read_all (step r at w) (at + 1) ws
 -- two names and the options are `check`
 abbrev pub check_read : Option ℕ → Option ℕ → Option ℕ → Waiting → Reading → Option Command
 check_read (Some left) (Some right) None Nothing r =
-    Some (commands.Check (record { left = left; right = right; k = unwrap_or r.k 1; workers = unwrap_or r.workers 1; classes = r.classes; trace = r.trace; cert = r.cert }))
+    Some (commands.Check (record { left = left; right = right; k = unwrap_or r.k 1; workers = unwrap_or r.workers 1; classes = r.classes; stats = r.stats; trace = r.trace; cert = r.cert }))
 check_read first second third waiting r = None
 
 abbrev pub check_of : Option Reading → Option Command
@@ -101,8 +102,12 @@ abbrev pub replay_read : Option ℕ → Option ℕ → Option ℕ → Waiting �
 replay_read (Some left) (Some right) (Some trace) Nothing = Some (commands.Replay (record { left = left; right = right; trace = trace }))
 replay_read first second third waiting = None
 
+-- options that `check` alone has
+abbrev pub has_check_options : Reading → Bool
+has_check_options r = r.classes || (r.stats || (is_some r.trace || is_some r.cert))
+
 abbrev pub has_options : Reading → Bool
-has_options r = is_some r.k || (is_some r.workers || (r.classes || (is_some r.trace || is_some r.cert)))
+has_options r = is_some r.k || (is_some r.workers || has_check_options r)
 
 abbrev pub replay_of : Option Reading → Option Command
 replay_of None = None
@@ -127,7 +132,7 @@ demo_sized r (Some n) = Some (commands.Demo (record { n = n; k = unwrap_or r.k 1
 
 -- a size and the depth and workers are `demo`
 abbrev pub demo_read : List (List ℕ) → Option ℕ → Option ℕ → Option ℕ → Waiting → Reading → Option Command
-demo_read words (Some at) None None Nothing r = if r.classes || (is_some r.trace || is_some r.cert) then None else demo_sized r (size_of (word_at words at))
+demo_read words (Some at) None None Nothing r = if has_check_options r then None else demo_sized r (size_of (word_at words at))
 demo_read words first second third waiting r = None
 
 abbrev pub demo_of : List (List ℕ) → Option Reading → Option Command
@@ -168,11 +173,13 @@ pub record IsCheckOf (n : ℕ) (c : Check) : Type 0 where
   pub cert : IsBelow n c.cert
   pub some : 0 < c.k
   pub few : c.k ≤ 16
+  pub workers : (0 < c.workers) × (c.workers ≤ 64)
 
 pub record IsDemoOf (d : Demo) : Type 0 where
   pub size : d.n ≤ 100000
   pub some : 0 < d.k
   pub few : d.k ≤ 16
+  pub workers : (0 < d.workers) × (d.workers ≤ 64)
 
 abbrev pub AreWordsOf : ℕ → Command → Type 0
 AreWordsOf n (commands.Check c) = IsCheckOf n c

@@ -1,24 +1,29 @@
 // The answer of `check`: the verdict of a pair, and its text.
-ghost use Rattle.std.specs.Prelude.{◌≡◌, ◌≢◌, ◌≤◌, ◌<◌, ◌++◌, ℕ, List, [], length, IfOk, OnOk};
+ghost use Rattle.std.specs.Prelude.{◌≡◌, ◌≢◌, ◌≤◌, ◌<◌, ◌++◌, ℕ, List, [], length, is_some, IfOk, OnOk};
 ghost use Rattle.circ_model.specs.Meaning.{IsSoundPair, places_of, outputs_of};
 ghost use Rattle.circ_model.specs.Verdict.{AgreeBelow};
 ghost use Rattle.class_partition.specs.Classes.{ArePartition, AreOfGreatest};
 ghost use Rattle.class_partition.specs.Laws.{PairOutput};
 ghost use Rattle.induction_base.specs.Least.{IsShown};
 ghost use Rattle.sec_cli.specs.Outputs.{AreLeftOut};
-ghost use Rattle.sec_cli.specs.Answers.{AreClassLines, IsCertOf, IsCheckAnswer};
+ghost use Rattle.sec_cli.specs.Answers.{AreClassLines, IsCertOf, IsCheckAnswer, IsJournalOf, IsRefinedText, is_refined, stats_lines};
 
+use crate::counting::stats_of;
 use crate::ending::Answer;
-use crate::lines::{different_line, equivalent_line, push_numbers, undecided_head};
+use crate::lines::{different_line, equivalent_line, push_numbers, stats_line, undecided_head};
 use crate::words::Check;
 use class_partition::Classes;
 use class_text::push_class_lines;
 use corr_certificate::write_cert;
 use induction_base::{Diff, least_difference};
 use product_machine::Product;
+use refine_board::Journal;
+use sec_base::Gate;
+use split_workers::{Refined, refine};
 use std::alloc::{AllocError, Global};
+use std::sync::Wait;
+use std::thread::Threads;
 use trace_witness::write_trace;
-use verdict_stamp::greatest_classes;
 
 // The outputs that the classes don't pair.
 fn left_out(alloc: Global, product: &Product, classes: &Classes) -> Result<Vec<u32>, AllocError>
@@ -54,28 +59,65 @@ fn push_classes(
     Ok(())
 }
 
+// Adds the line of the journal's numbers where it is asked for.
+fn push_stats(
+    alloc: Global,
+    c: &Check,
+    journal: &Journal,
+    text: &mut Vec<u8>,
+) -> Result<(), AllocError>
+    ensures { OnOk result (text.new.items ≡ text.old.items ++ stats_lines c.now journal.now.entries) }
+{
+    if c.stats {
+        let line = stats_line(alloc, stats_of(journal))?;
+        text.extend_from_slice(line.as_bytes())?;
+    }
+    Ok(())
+}
+
+// Adds the lines that follow the verdict's line: those of the classes, and then that of the journal.
+fn push_lines(
+    alloc: Global,
+    product: &Product,
+    c: &Check,
+    classes: &Classes,
+    journal: &Journal,
+    text: &mut Vec<u8>,
+) -> Result<(), AllocError>
+    requires partition { ArePartition (places_of product.now) classes.now }
+    requires greatest { AreOfGreatest product.now c.now.k classes.now }
+    requires journal { IsJournalOf product.now c.now journal.now.entries }
+    ensures { OnOk result (IsRefinedText product.now c.now journal.now.entries text.old.items text.new.items) }
+{
+    push_classes(alloc, product, c, classes, text)?;
+    push_stats(alloc, c, journal, text)
+}
+
 // The answer by the classes of the greatest correspondence, where no run differs below the depth.
 fn answer_by(
     alloc: Global,
     product: &Product,
     c: &Check,
     classes: &Classes,
+    journal: Journal,
 ) -> Result<Answer, AllocError>
     requires sound { IsSoundPair product.now }
     requires partition { ArePartition (places_of product.now) classes.now }
     requires greatest { AreOfGreatest product.now c.now.k classes.now }
+    requires journal { IsJournalOf product.now c.now journal.entries }
     requires agree { AgreeBelow product.now c.now.k }
     requires some { 0 < c.now.k }
     requires few { c.now.k ≤ 16 }
     ensures answer { IfOk result (IsCheckAnswer product.now c.now) }
     ensures status { IfOk result (λ a. a.status ≤ 2) }
+    ensures journal { IfOk result (λ a. is_some a.journal ≡ is_refined a.status) }
 {
     let _places = classes.len();
     let outputs = left_out(alloc, product, classes)?;
     if outputs.is_empty() {
-        equivalent(alloc, product, c, classes)
+        equivalent(alloc, product, c, classes, journal)
     } else {
-        undecided(alloc, product, c, classes, outputs.as_slice())
+        undecided(alloc, product, c, classes, journal, outputs.as_slice())
     }
 }
 
@@ -106,24 +148,28 @@ fn equivalent(
     product: &Product,
     c: &Check,
     classes: &Classes,
+    journal: Journal,
 ) -> Result<Answer, AllocError>
     requires sound { IsSoundPair product.now }
     requires partition { ArePartition (places_of product.now) classes.now }
     requires greatest { AreOfGreatest product.now c.now.k classes.now }
+    requires journal { IsJournalOf product.now c.now journal.entries }
     requires paired { (j : ℕ) → j < outputs_of product.now → PairOutput product.now classes.now j }
     requires some { 0 < c.now.k }
     requires few { c.now.k ≤ 16 }
     ensures answer { IfOk result (IsCheckAnswer product.now c.now) }
     ensures status { IfOk result (λ a. a.status ≤ 2) }
+    ensures journal { IfOk result (λ a. is_some a.journal ≡ is_refined a.status) }
 {
     let line = equivalent_line(alloc, c.k, product.len(), classes.count())?;
     let mut text = Vec::from_slice(alloc, line.as_bytes())?;
-    push_classes(alloc, product, c, classes, &mut text)?;
+    push_lines(alloc, product, c, classes, &journal, &mut text)?;
     let file = cert_of(alloc, product, c, classes)?;
     Ok(Answer {
         status: 0,
         text,
         file,
+        journal: Some(journal),
     })
 }
 
@@ -133,26 +179,30 @@ fn undecided(
     product: &Product,
     c: &Check,
     classes: &Classes,
+    journal: Journal,
     outputs: &[u32],
 ) -> Result<Answer, AllocError>
     requires sound { IsSoundPair product.now }
     requires partition { ArePartition (places_of product.now) classes.now }
     requires greatest { AreOfGreatest product.now c.now.k classes.now }
+    requires journal { IsJournalOf product.now c.now journal.entries }
     requires agree { AgreeBelow product.now c.now.k }
     requires some { outputs.now ≢ [] }
     requires left_out { AreLeftOut product.now classes.now (outputs_of product.now) outputs.now }
     ensures answer { IfOk result (IsCheckAnswer product.now c.now) }
     ensures status { IfOk result (λ a. a.status ≤ 2) }
+    ensures journal { IfOk result (λ a. is_some a.journal ≡ is_refined a.status) }
 {
     let line = undecided_head(alloc, c.k, product.len(), classes.count())?;
     let mut text = Vec::from_slice(alloc, line.as_bytes())?;
     push_numbers(alloc, &mut text, outputs)?;
     text.push(b'\n')?;
-    push_classes(alloc, product, c, classes, &mut text)?;
+    push_lines(alloc, product, c, classes, &journal, &mut text)?;
     Ok(Answer {
         status: 2,
         text,
         file: Vec::new(alloc),
+        journal: Some(journal),
     })
 }
 
@@ -161,6 +211,7 @@ fn different(alloc: Global, product: &Product, c: &Check, diff: &Diff) -> Result
     requires shown { IsShown product.now c.now.k diff.now }
     ensures answer { IfOk result (IsCheckAnswer product.now c.now) }
     ensures status { IfOk result (λ a. a.status ≤ 2) }
+    ensures journal { IfOk result (λ a. is_some a.journal ≡ is_refined a.status) }
 {
     let line = different_line(alloc, c.k, diff.frame, diff.output)?;
     let mut text = Vec::from_slice(alloc, line.as_bytes())?;
@@ -170,20 +221,29 @@ fn different(alloc: Global, product: &Product, c: &Check, diff: &Diff) -> Result
         status: 1,
         text,
         file: trace,
+        journal: None,
     })
 }
 
 /// The verdict of a pair, as it is printed.
-pub(crate) fn check_pair(alloc: Global, product: &Product, c: &Check) -> Result<Answer, AllocError>
+pub(crate) fn check_pair<R: Threads + Wait + Sync, G: Gate>(
+    rt: &R,
+    alloc: Global,
+    product: &Product,
+    c: &Check,
+    gate: &G,
+) -> Result<Answer, AllocError>
     requires some { 0 < c.now.k }
     requires few { c.now.k ≤ 16 }
+    requires workers { (0 < c.now.workers) × (c.now.workers ≤ 64) }
     ensures answer { IfOk result (IsCheckAnswer product.now c.now) }
     ensures status { IfOk result (λ a. a.status ≤ 2) }
+    ensures journal { IfOk result (λ a. is_some a.journal ≡ is_refined a.status) }
 {
     let _sound = product.cells();
     if let Some(diff) = least_difference(alloc, product, c.k)? {
         return different(alloc, product, c, &diff);
     }
-    let version = greatest_classes(alloc, product, c.k)?;
-    answer_by(alloc, product, c, version.classes())
+    let Refined { version, journal } = refine(rt, alloc, product, c.k, c.workers, gate)?;
+    answer_by(alloc, product, c, version.classes(), journal)
 }

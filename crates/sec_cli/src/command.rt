@@ -1,11 +1,12 @@
 // One run: its words, its files, and what is written of it.
-ghost use Rattle.std.specs.Prelude.{◌≡◌, ◌≢◌, ◌≤◌, ◌<◌, ℕ, List, [], ◌∷◌, length, IsTrue, IsSomeAnd, MatchBool, Contains, is_some, IfOk};
+ghost use Rattle.std.specs.Prelude.{◌≡◌, ◌≢◌, ◌≤◌, ◌<◌, ℕ, List, [], ◌∷◌, length, IsTrue, IsSomeAnd, MatchBool, Contains, None, is_some, IfOk};
 ghost use Rattle.sec_base.specs.Faults.{Rose, appended};
+ghost use Rattle.sec_cli.specs.Answers.{is_refined};
 ghost use Rattle.sec_cli.specs.Words.{texts, command_of, word_at, AreWordsOf, IsCheckOf, IsDemoOf};
 ghost use Rattle.sec_cli.specs.Texts.{usage_text, memory_text};
-ghost use Rattle.sec_cli.specs.Endings.{Ending, IsCheckEnding, IsReplayEnding, IsVerifyEnding, IsDemoEnding, IsEnding, IsLoadEnding, failed_names, left_name, right_name, third_name};
+ghost use Rattle.sec_cli.specs.Endings.{Ending, IsCheckEnding, IsReplayEnding, IsVerifyEnding, IsDemoEnding, IsEnding, IsLoadEnding, refines, journal_of, failed_names, left_name, right_name, third_name};
 ghost use Rattle.sec_cli.specs.Reports.{IsTold, IsReport, refusal_status, told_of};
-ghost use Rattle.sec_cli.specs.Runs.{IsAnswered, IsRefused, IsUnread, IsUnwritten};
+ghost use Rattle.sec_cli.specs.Runs.{IsAnswered, IsJournalOfEnding, IsRefused, IsUnread, IsUnwritten};
 
 use crate::checking::check_pair;
 use crate::delivering::deliver;
@@ -16,31 +17,41 @@ use crate::replaying::replay;
 use crate::telling::{refusal_status, tell, tell_refusal};
 use crate::verifying::verify_file;
 use crate::words::{Check, Command, Demo, command_of};
-use sec_base::{Shelf, Sink};
+use refine_board::Journal;
+use sec_base::{Gate, Shelf, Sink};
 use std::alloc::Global;
+use std::sync::Wait;
+use std::thread::Threads;
 
 /// How a run ended: 0, 1 and 2 with an answer, 3 for wrong words, 4 for a refusal, 5 and 6 where reading and writing failed, 7
 /// for want of memory.
-#[derive(Clone, Copy, Debug, PartialEq, Eq)]
+#[derive(Drop)]
 pub struct Report {
     pub status: u8,
+    /// The journal of the refinement: with 0 and 2 of `check` and `demo`, with 6 where their verdict isn't a difference, and
+    /// with 7 where that verdict's file found no memory.
+    pub journal: Option<Journal>,
 }
 
 const USAGE: &str =
     "usage: sec check LEFT RIGHT [-k K] [-j J] [--classes] [--stats] [--trace FILE] [--cert FILE]\n       sec replay LEFT RIGHT TRACE\n       sec verify LEFT RIGHT CERT\n       sec demo N [-k K] [-j J]\n";
 
 // The answer of a check of two files.
-fn check_files<S: Shelf>(
+fn check_files<R: Threads + Wait + Sync, S: Shelf, G: Gate>(
+    rt: &R,
     alloc: Global,
     shelf: &mut S,
     left: &str,
     right: &str,
     c: &Check,
+    gate: &G,
 ) -> Result<Answer, Refusal>
     requires some { 0 < c.now.k }
     requires few { c.now.k ≤ 16 }
+    requires workers { (0 < c.now.workers) × (c.now.workers ≤ 64) }
     ensures ending { IsTrue S.tells → IsCheckEnding (S.file shelf.old left.now) (S.file shelf.old right.now) c.now result }
     ensures status { IfOk result (λ a. a.status ≤ 2) }
+    ensures journal { IfOk result (λ a. is_some a.journal ≡ is_refined a.status) }
     ensures failed { IsLoadEnding result → Rose (S.load_faults shelf.old) (S.load_faults shelf.new) }
     ensures files { S.file shelf.new ≡ S.file shelf.old }
     ensures names { S.failed shelf.new ≡ appended (S.failed shelf.old) (failed_names left.now right.now [] result) }
@@ -49,7 +60,7 @@ fn check_files<S: Shelf>(
 {
     match load_pair(alloc, shelf, left, right) {
         Err(unpaired) => Err(Refusal::Unpaired(unpaired)),
-        Ok(product) => match check_pair(alloc, &product, c) {
+        Ok(product) => match check_pair(rt, alloc, &product, c, gate) {
             Ok(answer) => Ok(answer),
             Err(_) => Err(Refusal::Memory),
         },
@@ -66,6 +77,7 @@ fn replay_files<S: Shelf>(
 ) -> Result<Answer, Refusal>
     ensures ending { IsTrue S.tells → IsReplayEnding (S.file shelf.old left.now) (S.file shelf.old right.now) (S.file shelf.old trace.now) result }
     ensures status { IfOk result (λ a. a.status ≤ 2) }
+    ensures journal { IfOk result (λ a. a.journal ≡ None) }
     ensures failed { IsLoadEnding result → Rose (S.load_faults shelf.old) (S.load_faults shelf.new) }
     ensures files { S.file shelf.new ≡ S.file shelf.old }
     ensures names { S.failed shelf.new ≡ appended (S.failed shelf.old) (failed_names left.now right.now trace.now result) }
@@ -88,6 +100,7 @@ fn verify_files<S: Shelf>(
 ) -> Result<Answer, Refusal>
     ensures ending { IsTrue S.tells → IsVerifyEnding (S.file shelf.old left.now) (S.file shelf.old right.now) (S.file shelf.old cert.now) result }
     ensures status { IfOk result (λ a. a.status ≤ 2) }
+    ensures journal { IfOk result (λ a. a.journal ≡ None) }
     ensures failed { IsLoadEnding result → Rose (S.load_faults shelf.old) (S.load_faults shelf.new) }
     ensures files { S.file shelf.new ≡ S.file shelf.old }
     ensures names { S.failed shelf.new ≡ appended (S.failed shelf.old) (failed_names left.now right.now cert.now result) }
@@ -101,29 +114,38 @@ fn verify_files<S: Shelf>(
 }
 
 // The answer of a demo, which loads no files.
-fn demo_ending(alloc: Global, d: &Demo) -> Result<Answer, Refusal>
+fn demo_ending<R: Threads + Wait + Sync, G: Gate>(
+    rt: &R,
+    alloc: Global,
+    d: &Demo,
+    gate: &G,
+) -> Result<Answer, Refusal>
     requires { IsDemoOf d.now }
     ensures ending { IsDemoEnding d.now result }
     ensures status { IfOk result (λ a. a.status ≤ 2) }
+    ensures journal { IfOk result (λ a. is_some a.journal ≡ is_refined a.status) }
     ensures unloaded { IsLoadEnding result → ⊥ }
     ensures names { failed_names [] [] [] result ≡ [] }
 {
-    match demo_answer(alloc, d) {
+    match demo_answer(rt, alloc, d, gate) {
         Ok(answer) => Ok(answer),
         Err(_) => Err(Refusal::Memory),
     }
 }
 
 // The answer of a command.
-fn decide<S: Shelf>(
+fn decide<R: Threads + Wait + Sync, S: Shelf, G: Gate>(
+    rt: &R,
     alloc: Global,
     shelf: &mut S,
     words: &[String],
     command: Command,
+    gate: &G,
 ) -> Result<Answer, Refusal>
     requires words { AreWordsOf (length words.now) command }
     ensures ending { IsTrue S.tells → IsEnding (S.file shelf.old) (texts words.now) command result }
     ensures status { IfOk result (λ a. a.status ≤ 2) }
+    ensures journal { IfOk result (λ a. is_some a.journal ≡ refines command a.status) }
     ensures failed { IsLoadEnding result → Rose (S.load_faults shelf.old) (S.load_faults shelf.new) }
     ensures files { S.file shelf.new ≡ S.file shelf.old }
     ensures names { S.failed shelf.new ≡ appended (S.failed shelf.old) (failed_names (left_name (texts words.now) command) (right_name (texts words.now) command) (third_name (texts words.now) command) result) }
@@ -133,11 +155,13 @@ fn decide<S: Shelf>(
     match command {
         Command::Check(c) => {
             check_files(
+                rt,
                 alloc,
                 shelf,
                 words[c.left].as_str(),
                 words[c.right].as_str(),
                 &c,
+                gate,
             )
         }
         Command::Replay(c) => replay_files(
@@ -154,7 +178,7 @@ fn decide<S: Shelf>(
             words[c.right].as_str(),
             words[c.cert].as_str(),
         ),
-        Command::Demo(d) => demo_ending(alloc, &d),
+        Command::Demo(d) => demo_ending(rt, alloc, &d, gate),
     }
 }
 
@@ -206,50 +230,69 @@ fn refuse<E: Sink>(words: &[String], command: Command, refusal: Refusal, err: &m
 }
 
 // Does what a command asks for.
-fn perform<S: Shelf, O: Sink, E: Sink>(
+fn perform<R: Threads + Wait + Sync, S: Shelf, O: Sink, E: Sink, G: Gate>(
+    rt: &R,
     alloc: Global,
     words: &[String],
     command: Command,
     shelf: &mut S,
     out: &mut O,
     err: &mut E,
-) -> u8
+    gate: &G,
+) -> Report
     requires words { AreWordsOf (length words.now) command }
     ensures reported { (e : Ending) × (IsTrue S.tells → IsEnding (S.file shelf.old) (texts words.now) command e) × IfOk e (λ a. a.status ≤ 2)
+        × IfOk e (λ a. is_some a.journal ≡ refines command a.status) × (result.journal ≡ journal_of e)
         × (IsLoadEnding e → Rose (S.load_faults shelf.old) (S.load_faults shelf.new))
         × (S.failed shelf.new ≡ appended (S.failed shelf.old) (failed_names (left_name (texts words.now) command) (right_name (texts words.now) command) (third_name (texts words.now) command) e))
         × IsReport S.tells (texts words.now) command e
         (record { files = S.file shelf.old; store_faults = S.store_faults shelf.old; out = O.taken out.old; out_faults = O.faults out.old; err = E.taken err.old; err_faults = E.faults err.old })
-        (record { files = S.file shelf.new; store_faults = S.store_faults shelf.new; out = O.taken out.new; out_faults = O.faults out.new; err = E.taken err.new; err_faults = E.faults err.new }) result }
+        (record { files = S.file shelf.new; store_faults = S.store_faults shelf.new; out = O.taken out.new; out_faults = O.faults out.new; err = E.taken err.new; err_faults = E.faults err.new }) result.status }
     ensures load_count { S.load_faults shelf.old ≤ S.load_faults shelf.new }
     ensures store_count { S.store_faults shelf.old ≤ S.store_faults shelf.new }
     ensures out_count { O.faults out.old ≤ O.faults out.new }
     ensures err_count { E.faults err.old ≤ E.faults err.new }
 {
-    match decide(alloc, shelf, words, command) {
-        Ok(answer) => deliver(words, command, &answer, shelf, out, err),
-        Err(refusal) => refuse(words, command, refusal, err),
+    match decide(rt, alloc, shelf, words, command, gate) {
+        Ok(answer) => {
+            let status = deliver(words, command, &answer, shelf, out, err);
+            let Answer { journal, .. } = answer;
+            Report { status, journal }
+        }
+        Err(refusal) => {
+            let status = refuse(words, command, refusal, err);
+            Report {
+                status,
+                journal: None,
+            }
+        }
     }
 }
 
 /// One run of the program over these words, of which the first is its own name: `check LEFT RIGHT [-k K] [-j J] [--classes]
-/// [--trace FILE] [--cert FILE]`, `replay LEFT RIGHT TRACE`, `verify LEFT RIGHT CERT` or `demo N [-k K] [-j J]`. `check` decides by signal correspondence with k-induction (van Eijk, IEEE TCAD
-/// 19(7), 2000; Sheeran, Singh, Stålmarck, FMCAD 2000) after a search for a difference in the first k frames; `replay` tells
-/// the first difference of a stored trace; `verify` reads a stored certificate, without solver or threads; `demo` checks a pair of any size that it makes itself.
-pub fn run<S: Shelf, O: Sink, E: Sink>(
+/// [--stats] [--trace FILE] [--cert FILE]`, `replay LEFT RIGHT TRACE`, `verify LEFT RIGHT CERT` or `demo N [-k K] [-j J]`.
+/// `check` decides by signal correspondence with k-induction (van Eijk, IEEE TCAD 19(7), 2000; Sheeran, Singh, Stålmarck,
+/// FMCAD 2000) after a search for a difference in the first k frames; `replay` tells the first difference of a stored trace;
+/// `verify` reads a stored certificate, without solver or threads; `demo` checks a pair of any size that it makes itself.
+/// `check` and `demo` refine the classes by J workers, in threads that `rt` starts; they may wait for one another, and the
+/// gate may hold them. The verdict and the classes are the same however they go on.
+pub fn run<R: Threads + Wait + Sync, S: Shelf, O: Sink, E: Sink, G: Gate>(
+    rt: &R,
     alloc: Global,
     words: &[String],
     shelf: &mut S,
     out: &mut O,
     err: &mut E,
+    gate: &G,
 ) -> Report
     // Words that aren't plain answer 3, and no other words do.
     ensures usage { MatchBool (is_some (command_of (texts words.now))) (result.status ≢ 3) (result.status ≡ 3) }
     ensures told_usage { result.status ≡ 3 → IsTold (E.taken err.old) (E.faults err.old) usage_text (E.taken err.new) (E.faults err.new) }
     ensures status { result.status ≤ 7 }
 
-    // The headline: what is printed is what the command answers for the files, and what it stores is what it prints.
-    ensures answered { result.status ≤ 2 → IsSomeAnd (command_of (texts words.now)) (λ c. IsAnswered S.tells (texts words.now) c result.status
+    // The headline: what is printed is what the command answers for the files, and what it stores is what it prints. The
+    // numbers of `--stats` are those of the returned journal, which is that of the refinement.
+    ensures answered { result.status ≤ 2 → IsSomeAnd (command_of (texts words.now)) (λ c. IsAnswered S.tells (texts words.now) c result.status result.journal
         (record { files = S.file shelf.old; store_faults = S.store_faults shelf.old; out = O.taken out.old; out_faults = O.faults out.old; err = E.taken err.old; err_faults = E.faults err.old })
         (record { files = S.file shelf.new; store_faults = S.store_faults shelf.new; out = O.taken out.new; out_faults = O.faults out.new; err = E.taken err.new; err_faults = E.faults err.new })) }
 
@@ -263,10 +306,14 @@ pub fn run<S: Shelf, O: Sink, E: Sink>(
     ensures unread { result.status ≡ 5 → IsSomeAnd (command_of (texts words.now)) (λ c. IsUnread S.tells (texts words.now) c (S.failed shelf.old) (S.failed shelf.new)
         (record { files = S.file shelf.old; store_faults = S.store_faults shelf.old; out = O.taken out.old; out_faults = O.faults out.old; err = E.taken err.old; err_faults = E.faults err.old })
         (record { files = S.file shelf.new; store_faults = S.store_faults shelf.new; out = O.taken out.new; out_faults = O.faults out.new; err = E.taken err.new; err_faults = E.faults err.new })) }
-    ensures unwritten { result.status ≡ 6 → IsSomeAnd (command_of (texts words.now)) (λ c. IsUnwritten S.tells (texts words.now) c
+    ensures unwritten { result.status ≡ 6 → IsSomeAnd (command_of (texts words.now)) (λ c. IsUnwritten S.tells (texts words.now) c result.journal
         (record { files = S.file shelf.old; store_faults = S.store_faults shelf.old; out = O.taken out.old; out_faults = O.faults out.old; err = E.taken err.old; err_faults = E.faults err.old })
         (record { files = S.file shelf.new; store_faults = S.store_faults shelf.new; out = O.taken out.new; out_faults = O.faults out.new; err = E.taken err.new; err_faults = E.faults err.new })) }
     ensures told_memory { result.status ≡ 7 → IsTold (E.taken err.old) (E.faults err.old) memory_text (E.taken err.new) (E.faults err.new) }
+
+    // Without an answer there is no journal. Want of memory comes before or after it.
+    ensures no_journal { 3 ≤ result.status → result.status ≤ 5 → result.journal ≡ None }
+    ensures last_journal { result.status ≡ 7 → IsSomeAnd (command_of (texts words.now)) (λ c. IsJournalOfEnding S.tells (S.file shelf.old) (texts words.now) c result.journal) }
 
     // What else stays.
     ensures out_stays { 3 ≤ result.status → result.status ≢ 6 → O.taken out.new ≡ O.taken out.old }
@@ -281,11 +328,11 @@ pub fn run<S: Shelf, O: Sink, E: Sink>(
     match command_of(words) {
         None => {
             tell(err, USAGE.as_bytes());
-            Report { status: 3 }
+            Report {
+                status: 3,
+                journal: None,
+            }
         }
-        Some(command) => {
-            let status = perform(alloc, words, command, shelf, out, err);
-            Report { status }
-        }
+        Some(command) => perform(rt, alloc, words, command, shelf, out, err, gate),
     }
 }

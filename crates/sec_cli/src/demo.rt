@@ -1,8 +1,8 @@
 // The answer of `demo`: the line of a demo pair, and the verdict of its two netlists.
-ghost use Rattle.std.specs.Prelude.{◌≤◌, ◌≡◌, IfOk};
+ghost use Rattle.std.specs.Prelude.{◌≤◌, ◌≡◌, IfOk, is_some};
 ghost use Rattle.circ_model.specs.Meaning.{IsSoundPair};
 ghost use Rattle.demo_pair.specs.Demo.{IsDemo};
-ghost use Rattle.sec_cli.specs.Answers.{IsDemoAnswer};
+ghost use Rattle.sec_cli.specs.Answers.{IsDemoAnswer, check_of_demo, is_refined};
 ghost use Rattle.sec_cli.specs.Words.{IsDemoOf};
 
 use crate::checking::check_pair;
@@ -11,7 +11,10 @@ use crate::lines::demo_line;
 use crate::words::{Check, Demo};
 use demo_pair::make_demo;
 use product_machine::Product;
+use sec_base::Gate;
 use std::alloc::{AllocError, Global};
+use std::sync::Wait;
+use std::thread::Threads;
 
 // The pair of a size.
 fn demo_product(alloc: Global, n: u32) -> Result<Product, AllocError>
@@ -25,26 +28,50 @@ fn demo_product(alloc: Global, n: u32) -> Result<Product, AllocError>
     }
 }
 
-/// The line of the demo of a size, and the verdict of its pair.
-pub(crate) fn demo_answer(alloc: Global, d: &Demo) -> Result<Answer, AllocError>
-    requires { IsDemoOf d.now }
-    ensures answer { IfOk result (IsDemoAnswer d.now) }
-    ensures status { IfOk result (λ a. a.status ≤ 2) }
+// The check of a demo's pair.
+fn check_of(d: &Demo) -> Check
+    ensures { result ≡ check_of_demo d.now }
 {
-    let product = demo_product(alloc, d.n)?;
-    let check = Check {
+    Check {
         left: 0,
         right: 0,
         k: d.k,
         workers: d.workers,
         classes: false,
+        stats: false,
         trace: None,
         cert: None,
-    };
+    }
+}
+
+/// The line of the demo of a size, and the verdict of its pair.
+pub(crate) fn demo_answer<R: Threads + Wait + Sync, G: Gate>(
+    rt: &R,
+    alloc: Global,
+    d: &Demo,
+    gate: &G,
+) -> Result<Answer, AllocError>
+    requires { IsDemoOf d.now }
+    ensures answer { IfOk result (IsDemoAnswer d.now) }
+    ensures status { IfOk result (λ a. a.status ≤ 2) }
+    ensures journal { IfOk result (λ a. is_some a.journal ≡ is_refined a.status) }
+{
+    let product = demo_product(alloc, d.n)?;
+    let check = check_of(d);
     let line = demo_line(alloc, d.n)?;
     let mut text = Vec::from_slice(alloc, line.as_bytes())?;
-    let answer = check_pair(alloc, &product, &check)?;
+    let answer = check_pair(rt, alloc, &product, &check, gate)?;
     text.extend_from_slice(answer.text.as_slice())?;
-    let Answer { status, file, .. } = answer;
-    Ok(Answer { status, text, file })
+    let Answer {
+        status,
+        file,
+        journal,
+        ..
+    } = answer;
+    Ok(Answer {
+        status,
+        text,
+        file,
+        journal,
+    })
 }

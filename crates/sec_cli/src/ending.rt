@@ -1,5 +1,6 @@
 use aiger_codec::NetFault;
 use corr_certificate::CertFault;
+use refine_board::Journal;
 use trace_witness::TraceFault;
 
 /// One of the two netlists' files.
@@ -43,6 +44,8 @@ pub struct Answer {
     pub text: Vec<u8>,
     /// What is stored on request: the trace in it, where the verdict is a difference, or the certificate of an equivalence.
     pub file: Vec<u8>,
+    /// The journal of the refinement, where the verdict comes from one.
+    pub journal: Option<Journal>,
 }
 
 /// Why a run answers nothing.

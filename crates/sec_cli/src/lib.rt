@@ -3,6 +3,7 @@
 
 mod checking;
 mod command;
+mod counting;
 mod delivering;
 mod demo;
 mod ending;

@@ -1,7 +1,8 @@
 // What a run prints: each text is made whole before any of it is written.
 ghost use Rattle.std.specs.Prelude.{◌≡◌, ◌≤◌, ◌*◌, ◌++◌, codes, decimal, string_bytes, IfOk, OnOk};
-ghost use Rattle.sec_cli.specs.Texts.{equivalent_line, undecided_head, undecided_line, with_commas, different_line, differs_line, agrees_line, demo_line};
+ghost use Rattle.sec_cli.specs.Texts.{equivalent_line, undecided_head, undecided_line, with_commas, different_line, differs_line, agrees_line, stats_head, stats_line, demo_line};
 
+use crate::counting::Stats;
 use std::alloc::{AllocError, Global};
 
 /// The line of a demo.
@@ -61,6 +62,33 @@ pub(crate) fn agrees_line(alloc: Global, frames: u64) -> Result<String, AllocErr
     ensures { IfOk result (λ line. string_bytes line ≡ agrees_line frames) }
 {
     format!(in alloc; "agrees frames={frames}\n")
+}
+
+// The line of a journal's numbers, up to the third.
+fn stats_head(alloc: Global, s: Stats) -> Result<String, AllocError>
+    ensures { IfOk result (λ line. string_bytes line ≡ stats_head s) }
+{
+    let Stats {
+        offers,
+        counted,
+        stale,
+        ..
+    } = s;
+    format!(in alloc; "stats offers={offers} counted={counted} stale={stale}")
+}
+
+/// The line of a journal's numbers.
+pub(crate) fn stats_line(alloc: Global, s: Stats) -> Result<String, AllocError>
+    ensures { IfOk result (λ line. string_bytes line ≡ stats_line s) }
+{
+    let head = stats_head(alloc, s)?;
+    let Stats {
+        splits,
+        already,
+        back,
+        ..
+    } = s;
+    format!(in alloc; "{head} splits={splits} already={already} back={back}\n")
 }
 
 // A number, and what stands before it.

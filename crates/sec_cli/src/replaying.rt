@@ -1,5 +1,5 @@
 // The answer of `replay`: what a stored trace shows on a pair.
-ghost use Rattle.std.specs.Prelude.{◌≡◌, ◌≤◌, ◌<◌, ◌^◌, ℕ, List, [], ◌∷◌, IsTrue, IfOk, length};
+ghost use Rattle.std.specs.Prelude.{◌≡◌, ◌≤◌, ◌<◌, ◌^◌, ℕ, List, [], ◌∷◌, None, IsTrue, IfOk, length};
 ghost use Rattle.sec_base.specs.Faults.{Rose, appended};
 ghost use Rattle.circ_model.specs.Meaning.{IsRun};
 ghost use Rattle.sec_cli.specs.Answers.{IsReplayOf};
@@ -19,6 +19,7 @@ fn answer_of(alloc: Global, product: &Product, run: &Path) -> Result<Answer, All
     requires run { IsRun product.now run.now }
     ensures replay { IfOk result (IsReplayOf product.now run.now) }
     ensures status { IfOk result (λ a. a.status ≤ 2) }
+    ensures journal { IfOk result (λ a. a.journal ≡ None) }
 {
     let mut scratch = Scratch::for_product(alloc, product)?;
     let (status, line) = match first_difference(product, run, &mut scratch) {
@@ -30,6 +31,7 @@ fn answer_of(alloc: Global, product: &Product, run: &Path) -> Result<Answer, All
         status,
         text,
         file: Vec::new(alloc),
+        journal: None,
     })
 }
 
@@ -38,6 +40,7 @@ fn replay_bytes(alloc: Global, product: &Product, bytes: &[u8]) -> Result<Answer
     requires { length bytes.now ≤ 1099511627776 }
     ensures replayed { IsReplayedAs product.now bytes.now result }
     ensures status { IfOk result (λ a. a.status ≤ 2) }
+    ensures journal { IfOk result (λ a. a.journal ≡ None) }
     ensures no_pair { IsOfPair result }
     ensures loaded { IsLoadEnding result → ⊥ }
 {
@@ -60,6 +63,7 @@ pub(crate) fn replay<S: Shelf>(
 ) -> Result<Answer, Refusal>
     ensures replayed { IsTrue S.tells → IsReplayed product.now (S.file shelf.old name.now) result }
     ensures status { IfOk result (λ a. a.status ≤ 2) }
+    ensures journal { IfOk result (λ a. a.journal ≡ None) }
     ensures failed { IsLoadEnding result → Rose (S.load_faults shelf.old) (S.load_faults shelf.new) }
     ensures no_pair { IsOfPair result }
     ensures files { S.file shelf.new ≡ S.file shelf.old }

@@ -5,9 +5,11 @@ use crate::plain::{few_free_bits, plain_classes};
 use aiger_file::read_netlist;
 use class_partition::Classes;
 use product_machine::Product;
-use sec_base::{MemShelf, MemSink, SureShelf, SureSink};
+use sec_base::{FreeGate, MemShelf, MemSink, SureShelf, SureSink};
 use std::alloc::{AllocError, Global};
+use std::sync::Wait;
 use std::test::Fail;
+use std::thread::Threads;
 use verdict_stamp::greatest_classes;
 
 // What a run over two netlists and a trace answers.
@@ -58,17 +60,19 @@ fn shelf_of(alloc: Global, row: &Row, fails: Vec<u64>) -> Option<MemShelf> {
 
 // Runs over a shelf and sinks in memory, of which the calls that are listed fail, and answers the shelf where all is as the row
 // has it.
-fn run_so(
+fn run_so<R: Threads + Wait + Sync>(
+    rt: &R,
     alloc: Global,
     row: &Row,
     shelf_fails: Vec<u64>,
     out_fails: Vec<u64>,
 ) -> Result<Option<MemShelf>, AllocError> {
-    run_within(alloc, row, shelf_fails, out_fails, Vec::new(alloc), 400)
+    run_within(rt, alloc, row, shelf_fails, out_fails, Vec::new(alloc), 400)
 }
 
 // The same, where calls of the error sink fail too, and the output has so much room.
-fn run_within(
+fn run_within<R: Threads + Wait + Sync>(
+    rt: &R,
     alloc: Global,
     row: &Row,
     shelf_fails: Vec<u64>,
@@ -86,7 +90,7 @@ fn run_within(
     ) else {
         return Ok(None);
     };
-    let report = run(alloc, &words, &mut shelf, &mut out, &mut err);
+    let report = run(rt, alloc, &words, &mut shelf, &mut out, &mut err, &FreeGate);
     if report.status == row.status
         && out.bytes() == row.out.as_bytes()
         && err.bytes() == row.err.as_bytes()
@@ -97,8 +101,12 @@ fn run_within(
     }
 }
 
-fn answers_so(alloc: Global, row: &Row) -> Result<bool, AllocError> {
-    let shelf = run_so(alloc, row, Vec::new(alloc), Vec::new(alloc))?;
+fn answers_so<R: Threads + Wait + Sync>(
+    rt: &R,
+    alloc: Global,
+    row: &Row,
+) -> Result<bool, AllocError> {
+    let shelf = run_so(rt, alloc, row, Vec::new(alloc), Vec::new(alloc))?;
     Ok(shelf.is_some())
 }
 
@@ -122,13 +130,18 @@ fn case(
 }
 
 // Where no device fails, a run ends by an answer, by a refusal or by want of memory.
-fn run_over_sure_devices(alloc: Global, words: &[String], shelf: &mut SureShelf) -> Report
+fn run_over_sure_devices<R: Threads + Wait + Sync>(
+    rt: &R,
+    alloc: Global,
+    words: &[String],
+    shelf: &mut SureShelf,
+) -> Report
     ensures read { result.status ≢ 5 }
     ensures written { result.status ≢ 6 }
 {
     let mut out = SureSink::new();
     let mut err = SureSink::new();
-    run(alloc, words, shelf, &mut out, &mut err)
+    run(rt, alloc, words, shelf, &mut out, &mut err, &FreeGate)
 }
 
 #[test]
@@ -200,7 +213,7 @@ fn pairs_that_are_proved(rt: HostRuntime) -> Result<(), Fail> {
         ),
     ];
     for row in rows.iter() {
-        assert!(rt; answers_so(alloc, row)?);
+        assert!(rt; answers_so(&rt, alloc, row)?);
     }
     Ok(())
 }
@@ -283,7 +296,7 @@ fn pairs_that_differ_or_stay_open(rt: HostRuntime) -> Result<(), Fail> {
         ),
     ];
     for row in rows.iter() {
-        assert!(rt; answers_so(alloc, row)?);
+        assert!(rt; answers_so(&rt, alloc, row)?);
     }
     Ok(())
 }
@@ -346,7 +359,7 @@ fn files_that_are_refused(rt: HostRuntime) -> Result<(), Fail> {
         ),
     ];
     for row in rows.iter() {
-        assert!(rt; answers_so(alloc, row)?);
+        assert!(rt; answers_so(&rt, alloc, row)?);
     }
     Ok(())
 }
@@ -381,7 +394,114 @@ fn demos_are_equivalent(rt: HostRuntime) -> Result<(), Fail> {
         ),
     ];
     for (words, out) in rows {
-        assert!(rt; answers_so(alloc, &case(words, "", "", 0, out, ""))?);
+        assert!(rt; answers_so(&rt, alloc, &case(words, "", "", 0, out, ""))?);
+    }
+    Ok(())
+}
+
+#[test]
+fn numbers_of_entries(rt: HostRuntime) -> Result<(), Fail> {
+    let alloc = rt.alloc();
+    let none = "aag 0 0 0 0 0\n";
+    let nothing =
+        "equivalent k=1 signals=1 classes=1\nstats offers=0 counted=0 stale=0 splits=0 already=0 back=0\n";
+    // Simulation tells both latches from the constant, and leaves one pair, which one worker proves.
+    let one =
+        "equivalent k=1 signals=3 classes=2\nclass l1 r1\nstats offers=1 counted=1 stale=0 splits=0 already=0 back=0\n";
+    let open =
+        "undecided k=1 signals=2 classes=2 unpaired=0\nstats offers=0 counted=0 stale=0 splits=0 already=0 back=0\n";
+    let differs = "different k=2 frame=1 output=0\n1\nb0\n0\n\n\n.\n";
+    let rows = [
+        case("sec check left right --stats", none, none, 0, nothing, ""),
+        case(
+            "sec check left right --stats -j 64",
+            none,
+            none,
+            0,
+            nothing,
+            "",
+        ),
+        case(
+            "sec check --stats left right --classes",
+            TOGGLE,
+            TOGGLE,
+            0,
+            one,
+            "",
+        ),
+        case(
+            "sec check left right --classes --stats -j 7",
+            TOGGLE,
+            TOGGLE,
+            0,
+            one,
+            "",
+        ),
+        case("sec check left right --stats", TOGGLE, LOW, 2, open, ""),
+        case(
+            "sec check left right --stats -k 2",
+            TOGGLE,
+            LOW,
+            1,
+            differs,
+            "",
+        ),
+    ];
+    for row in rows.iter() {
+        assert!(rt; answers_so(&rt, alloc, row)?);
+    }
+    Ok(())
+}
+
+#[test]
+fn any_number_of_workers_tells_the_same(rt: HostRuntime) -> Result<(), Fail> {
+    let alloc = rt.alloc();
+    let ten =
+        "demo n=10 inputs=10 latches=10 gates=60 outputs=10\nequivalent k=1 signals=151 classes=70\n";
+    let open =
+        "undecided k=1 signals=12 classes=9 unpaired=0\nclass c r5\nclass l2 r2\nclass r6 !r7\n";
+    let rows = [
+        case(
+            "sec check left right --classes -j 1",
+            DELAY,
+            MASKED,
+            2,
+            open,
+            "",
+        ),
+        case(
+            "sec check left right --classes -j 2",
+            DELAY,
+            MASKED,
+            2,
+            open,
+            "",
+        ),
+        case(
+            "sec check left right --classes -j 7",
+            DELAY,
+            MASKED,
+            2,
+            open,
+            "",
+        ),
+        case("sec demo 10 -j 1", "", "", 0, ten, ""),
+        case("sec demo 10 -j 2", "", "", 0, ten, ""),
+        case("sec demo 10 -j 7", "", "", 0, ten, ""),
+    ];
+    for row in rows.iter() {
+        assert!(rt; answers_so(&rt, alloc, row)?);
+    }
+    Ok(())
+}
+
+#[test]
+fn seven_workers_tell_the_same_each_time(rt: HostRuntime) -> Result<(), Fail> {
+    let alloc = rt.alloc();
+    let fifty =
+        "demo n=50 inputs=50 latches=50 gates=300 outputs=50\nequivalent k=1 signals=751 classes=385\n";
+    for _ in 0..3u32 {
+        assert!(rt; answers_so(&rt, alloc, &case("sec demo 50 -j 7", "", "", 0, fifty, ""))?);
     }
     Ok(())
 }
@@ -402,6 +522,7 @@ fn words_that_are_no_command(rt: HostRuntime) -> Result<(), Fail> {
         "sec check left right -k 1 -k 1",
         "sec check left right -j 65",
         "sec check left right --classes --classes",
+        "sec check left right --stats --stats",
         "sec check left right --trace -k",
         "sec replay left right",
         "sec replay left right trace -k 1",
@@ -417,9 +538,11 @@ fn words_that_are_no_command(rt: HostRuntime) -> Result<(), Fail> {
         "sec demo 100001",
         "sec demo 1 2",
         "sec demo 1 --classes",
+        "sec demo 1 --stats",
+        "sec replay left right trace --stats",
         "sec demo -k 1",
     ] {
-        assert!(rt; answers_so(alloc, &case(words, TOGGLE, TOGGLE, 3, "", usage))?);
+        assert!(rt; answers_so(&rt, alloc, &case(words, TOGGLE, TOGGLE, 3, "", usage))?);
     }
     Ok(())
 }
@@ -430,16 +553,16 @@ fn a_trace_is_stored_before_it_is_printed(rt: HostRuntime) -> Result<(), Fail> {
     let words = "sec check left right -k 2 --trace made";
     let text = "different k=2 frame=1 output=0\n1\nb0\n0\n\n\n.\n";
     let made = case(words, TOGGLE, LOW, 1, text, "");
-    let shelf = run_so(alloc, &made, Vec::new(alloc), Vec::new(alloc))?;
+    let shelf = run_so(&rt, alloc, &made, Vec::new(alloc), Vec::new(alloc))?;
     assert!(rt; holds(&shelf, "made", b"1\nb0\n0\n\n\n.\n"));
     let unwritten = case(words, TOGGLE, LOW, 6, "", "sec: output: write failed\n");
-    let shelf = run_so(alloc, &unwritten, Vec::new(alloc), vec![in alloc; 0]?)?;
+    let shelf = run_so(&rt, alloc, &unwritten, Vec::new(alloc), vec![in alloc; 0]?)?;
     assert!(rt; holds(&shelf, "made", b"1\nb0\n0\n\n\n.\n"));
     let unstored = case(words, TOGGLE, LOW, 6, "", "sec: made: write failed\n");
-    let shelf = run_so(alloc, &unstored, vec![in alloc; 2]?, Vec::new(alloc))?;
+    let shelf = run_so(&rt, alloc, &unstored, vec![in alloc; 2]?, Vec::new(alloc))?;
     assert!(rt; shelf.is_some());
     let unread = case(words, TOGGLE, LOW, 5, "", "sec: left: read failed\n");
-    let shelf = run_so(alloc, &unread, vec![in alloc; 0]?, Vec::new(alloc))?;
+    let shelf = run_so(&rt, alloc, &unread, vec![in alloc; 0]?, Vec::new(alloc))?;
     assert!(rt; shelf.is_some());
     Ok(())
 }
@@ -520,7 +643,8 @@ fn the_solver_finds_the_classes_of_all_paths(rt: HostRuntime) -> Result<(), Fail
 }
 
 // Whether a check with these words ends with status 1 and one of these texts.
-fn differs_as(
+fn differs_as<R: Threads + Wait + Sync>(
+    rt: &R,
     alloc: Global,
     words: &'static str,
     left: &'static str,
@@ -528,7 +652,7 @@ fn differs_as(
     texts: &[&'static str],
 ) -> Result<bool, AllocError> {
     for text in texts {
-        if answers_so(alloc, &case(words, left, right, 1, text, ""))? {
+        if answers_so(rt, alloc, &case(words, left, right, 1, text, ""))? {
             return Ok(true);
         }
     }
@@ -544,14 +668,14 @@ fn differences_are_shown_by_some_run(rt: HostRuntime) -> Result<(), Fail> {
         "different k=1 frame=0 output=0\n1\nb0\n01\n\n.\n",
         "different k=1 frame=0 output=0\n1\nb0\n10\n\n.\n",
     ];
-    assert!(rt; differs_as(alloc, words, free, free, &two)?);
+    assert!(rt; differs_as(&rt, alloc, words, free, free, &two)?);
     let input = "aag 1 1 0 1 0\n2\n2\n";
     let turned = "aag 1 1 0 1 0\n2\n3\n";
     let rows = [
         "different k=1 frame=0 output=0\n1\nb0\n\n0\n.\n",
         "different k=1 frame=0 output=0\n1\nb0\n\n1\n.\n",
     ];
-    assert!(rt; differs_as(alloc, words, input, turned, &rows)?);
+    assert!(rt; differs_as(&rt, alloc, words, input, turned, &rows)?);
     // The first input is 0; the others are free.
     let four = [
         "different k=3 frame=2 output=0\n1\nb0\n0000\n0\n0\n0\n.\n",
@@ -559,7 +683,16 @@ fn differences_are_shown_by_some_run(rt: HostRuntime) -> Result<(), Fail> {
         "different k=3 frame=2 output=0\n1\nb0\n0000\n0\n1\n0\n.\n",
         "different k=3 frame=2 output=0\n1\nb0\n0000\n0\n1\n1\n.\n",
     ];
-    assert!(rt; differs_as(alloc, "sec check left right -k 3", DELAY, MASKED, &four)?);
+    assert!(rt;
+        differs_as(
+            &rt,
+            alloc,
+            "sec check left right -k 3",
+            DELAY,
+            MASKED,
+            &four
+        )?
+    );
     let short = Row {
         trace: "1\nb0\n0\n\n.\n",
         ..case(
@@ -571,7 +704,7 @@ fn differences_are_shown_by_some_run(rt: HostRuntime) -> Result<(), Fail> {
             "",
         )
     };
-    assert!(rt; answers_so(alloc, &short)?);
+    assert!(rt; answers_so(&rt, alloc, &short)?);
     Ok(())
 }
 
@@ -586,7 +719,13 @@ fn replay(trace: &'static str, status: u8, out: &'static str, err: &'static str)
 #[test]
 fn traces_with_a_fault_are_refused(rt: HostRuntime) -> Result<(), Fail> {
     let alloc = rt.alloc();
-    assert!(rt; answers_so(alloc, &replay("1\nb0\n0\n.\n", 0, "agrees frames=0\n", ""))?);
+    assert!(rt;
+        answers_so(
+            &rt,
+            alloc,
+            &replay("1\nb0\n0\n.\n", 0, "agrees frames=0\n", "")
+        )?
+    );
     for (trace, err) in [
         ("0\n", "sec: trace: line at line 1\n"),
         ("1\nb1\n0\n\n.\n", "sec: trace: line at line 2\n"),
@@ -606,7 +745,7 @@ fn traces_with_a_fault_are_refused(rt: HostRuntime) -> Result<(), Fail> {
         ("1\nb0\n0\n\n\n", "sec: trace: truncated at line 6\n"),
         ("1\nb0\n0\n\n\n.", "sec: trace: truncated at line 6\n"),
     ] {
-        assert!(rt; answers_so(alloc, &replay(trace, 4, "", err))?);
+        assert!(rt; answers_so(&rt, alloc, &replay(trace, 4, "", err))?);
     }
     Ok(())
 }
@@ -624,6 +763,7 @@ fn an_output_with_little_room_takes_a_part(rt: HostRuntime) -> Result<(), Fail> 
         "sec: output: write failed\n",
     );
     let shelf = run_within(
+        &rt,
         alloc,
         &cut,
         Vec::new(alloc),
@@ -633,7 +773,7 @@ fn an_output_with_little_room_takes_a_part(rt: HostRuntime) -> Result<(), Fail> 
     )?;
     assert!(rt; holds(&shelf, "made", b"1\nb0\n0\n\n\n.\n"));
     let second = case(words, TOGGLE, LOW, 5, "", "sec: right: read failed\n");
-    let shelf = run_so(alloc, &second, vec![in alloc; 1]?, Vec::new(alloc))?;
+    let shelf = run_so(&rt, alloc, &second, vec![in alloc; 1]?, Vec::new(alloc))?;
     assert!(rt; shelf.is_some());
     Ok(())
 }
@@ -646,7 +786,7 @@ fn an_error_sink_that_fails_takes_a_part(rt: HostRuntime) -> Result<(), Fail> {
         let unread = case(words, TOGGLE, LOW, 5, "", part);
         let none = vec![in alloc; 0]?;
         let fails = vec![in alloc; call]?;
-        let shelf = run_within(alloc, &unread, none, Vec::new(alloc), fails, 400)?;
+        let shelf = run_within(&rt, alloc, &unread, none, Vec::new(alloc), fails, 400)?;
         assert!(rt; shelf.is_some());
     }
     Ok(())
@@ -658,7 +798,7 @@ fn sure_devices_are_answered(rt: HostRuntime) -> Result<(), Fail> {
     let mut shelf = SureShelf::new(alloc);
     if shelf.put("left", TOGGLE.as_bytes()).is_ok() {
         let words = words_of(alloc, "sec check left left")?;
-        assert!(rt; run_over_sure_devices(alloc, &words, &mut shelf).status == 0);
+        assert!(rt; run_over_sure_devices(&rt, alloc, &words, &mut shelf).status == 0);
     }
     Ok(())
 }
@@ -685,7 +825,7 @@ fn certified(cert: &'static str, status: u8, out: &'static str, err: &'static st
 #[test]
 fn certificates_are_verified(rt: HostRuntime) -> Result<(), Fail> {
     let alloc = rt.alloc();
-    assert!(rt; answers_so(alloc, &certified(CERT, 0, "verified\n", ""))?);
+    assert!(rt; answers_so(&rt, alloc, &certified(CERT, 0, "verified\n", ""))?);
     for (cert, err) in [
         (
             "seccert 1 k=1 signals=3\nclass l1 r1\nbase r1\n0 6 2 3 4 0\nstep r1\n0 12 4 7 6 11 10 0\nend\n",
@@ -718,16 +858,21 @@ fn certificates_are_verified(rt: HostRuntime) -> Result<(), Fail> {
         ("seccert 2\n", "sec: trace: line at line 1\n"),
         ("", "sec: trace: truncated at line 1\n"),
     ] {
-        assert!(rt; answers_so(alloc, &certified(cert, 4, "", err))?);
+        assert!(rt; answers_so(&rt, alloc, &certified(cert, 4, "", err))?);
     }
     let none = "sec verify left right none";
     let unread = case(none, TOGGLE, TOGGLE, 5, "", "sec: none: read failed\n");
-    assert!(rt; answers_so(alloc, &unread)?);
+    assert!(rt; answers_so(&rt, alloc, &unread)?);
     Ok(())
 }
 
 // Whether a run over this shelf answers as the row has it.
-fn answers_on(alloc: Global, row: &Row, shelf: &mut MemShelf) -> Result<bool, AllocError> {
+fn answers_on<R: Threads + Wait + Sync>(
+    rt: &R,
+    alloc: Global,
+    row: &Row,
+    shelf: &mut MemShelf,
+) -> Result<bool, AllocError> {
     let words = words_of(alloc, row.words)?;
     let Ok(mut out) = MemSink::with_room(alloc, 400, Vec::new(alloc)) else {
         return Ok(false);
@@ -735,7 +880,7 @@ fn answers_on(alloc: Global, row: &Row, shelf: &mut MemShelf) -> Result<bool, Al
     let Ok(mut err) = MemSink::with_room(alloc, 400, Vec::new(alloc)) else {
         return Ok(false);
     };
-    let report = run(alloc, &words, shelf, &mut out, &mut err);
+    let report = run(rt, alloc, &words, shelf, &mut out, &mut err, &FreeGate);
     Ok(
         report.status == row.status
             && out.bytes() == row.out.as_bytes()
@@ -744,11 +889,16 @@ fn answers_on(alloc: Global, row: &Row, shelf: &mut MemShelf) -> Result<bool, Al
 }
 
 // Whether one run stores what the next one finds without a fault.
-fn stores_what_verifies(alloc: Global, made: &Row, verified: &Row) -> Result<bool, AllocError> {
-    let Some(mut shelf) = run_so(alloc, made, Vec::new(alloc), Vec::new(alloc))? else {
+fn stores_what_verifies<R: Threads + Wait + Sync>(
+    rt: &R,
+    alloc: Global,
+    made: &Row,
+    verified: &Row,
+) -> Result<bool, AllocError> {
+    let Some(mut shelf) = run_so(rt, alloc, made, Vec::new(alloc), Vec::new(alloc))? else {
         return Ok(false);
     };
-    answers_on(alloc, verified, &mut shelf)
+    answers_on(rt, alloc, verified, &mut shelf)
 }
 
 // Whether there is a shelf, and nothing under a name on it.
@@ -773,11 +923,12 @@ fn certificates_are_stored_of_equivalent_pairs(rt: HostRuntime) -> Result<(), Fa
         "verified\n",
         "",
     );
-    assert!(rt; stores_what_verifies(alloc, &made, &verified)?);
-    let shelf = run_so(alloc, &made, Vec::new(alloc), Vec::new(alloc))?;
+    assert!(rt; stores_what_verifies(&rt, alloc, &made, &verified)?);
+    let shelf = run_so(&rt, alloc, &made, Vec::new(alloc), Vec::new(alloc))?;
     assert!(rt; lacks(&shelf, "other"));
     let open = "undecided k=1 signals=2 classes=2 unpaired=0\n";
     let shelf = run_so(
+        &rt,
         alloc,
         &case(words, TOGGLE, LOW, 2, open, ""),
         Vec::new(alloc),
@@ -788,6 +939,7 @@ fn certificates_are_stored_of_equivalent_pairs(rt: HostRuntime) -> Result<(), Fa
     let deep = "sec check left right -k 2 --cert made --trace other";
     let text = "different k=2 frame=1 output=0\n1\nb0\n0\n\n\n.\n";
     let shelf = run_so(
+        &rt,
         alloc,
         &case(deep, TOGGLE, LOW, 1, text, ""),
         Vec::new(alloc),
@@ -796,7 +948,7 @@ fn certificates_are_stored_of_equivalent_pairs(rt: HostRuntime) -> Result<(), Fa
     assert!(rt; lacks(&shelf, "made"));
     assert!(rt; holds(&shelf, "other", b"1\nb0\n0\n\n\n.\n"));
     let unstored = case(words, TOGGLE, TOGGLE, 6, "", "sec: made: write failed\n");
-    let shelf = run_so(alloc, &unstored, vec![in alloc; 2]?, Vec::new(alloc))?;
+    let shelf = run_so(&rt, alloc, &unstored, vec![in alloc; 2]?, Vec::new(alloc))?;
     assert!(rt; shelf.is_some());
     Ok(())
 }

@@ -1,5 +1,5 @@
 // The answer of `verify`: whether a stored certificate supports a pair.
-ghost use Rattle.std.specs.Prelude.{◌≡◌, ◌≤◌, ◌<◌, ◌^◌, ℕ, List, [], ◌∷◌, ◌++◌, IsTrue, IfOk, length};
+ghost use Rattle.std.specs.Prelude.{◌≡◌, ◌≤◌, ◌<◌, ◌^◌, ℕ, List, [], ◌∷◌, ◌++◌, None, IsTrue, IfOk, length};
 ghost use Rattle.sec_base.specs.Faults.{Rose, appended};
 ghost use Rattle.sec_cli.specs.Texts.{verified_line};
 ghost use Rattle.sec_cli.specs.Endings.{IsVerified, IsVerifiedAs, IsOfPair, IsLoadEnding, failed_third};
@@ -14,13 +14,14 @@ const LONGEST_THIRD: u64 = 1099511627776;
 
 // The answer where there is no fault.
 fn verified(alloc: Global) -> Result<Answer, AllocError>
-    ensures { IfOk result (λ a. (a.status ≡ 0) × (a.text.items ≡ verified_line)) }
+    ensures { IfOk result (λ a. (a.status ≡ 0) × (a.text.items ≡ verified_line) × (a.journal ≡ None)) }
 {
     let text = Vec::from_slice(alloc, b"verified\n".as_slice())?;
     Ok(Answer {
         status: 0,
         text,
         file: Vec::new(alloc),
+        journal: None,
     })
 }
 
@@ -28,6 +29,7 @@ fn verified(alloc: Global) -> Result<Answer, AllocError>
 fn verify_bytes(alloc: Global, product: &Product, bytes: &[u8]) -> Result<Answer, Refusal>
     ensures verified { IsVerifiedAs product.now bytes.now result }
     ensures status { IfOk result (λ a. a.status ≤ 2) }
+    ensures journal { IfOk result (λ a. a.journal ≡ None) }
     ensures no_pair { IsOfPair result }
     ensures loaded { IsLoadEnding result → ⊥ }
 {
@@ -50,6 +52,7 @@ pub(crate) fn verify_file<S: Shelf>(
 ) -> Result<Answer, Refusal>
     ensures verified { IsTrue S.tells → IsVerified product.now (S.file shelf.old name.now) result }
     ensures status { IfOk result (λ a. a.status ≤ 2) }
+    ensures journal { IfOk result (λ a. a.journal ≡ None) }
     ensures failed { IsLoadEnding result → Rose (S.load_faults shelf.old) (S.load_faults shelf.new) }
     ensures no_pair { IsOfPair result }
     ensures files { S.file shelf.new ≡ S.file shelf.old }

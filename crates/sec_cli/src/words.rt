@@ -1,6 +1,6 @@
 // The words of a run: which command they are, with which files and options.
 ghost use Rattle.std.specs.Prelude.{◌≡◌, ◌≤◌, ◌<◌, ℕ, List, drop, length, IfSome, Some};
-ghost use Rattle.sec_cli.specs.Words.{is_name, leads_zero, texts, number_of, none_read, step, named, word_read, store_read, flag_read, read_all, check_of, replay_of, has_options, verify_of, size_of, demo_of, command_of, AreWithin, AreWordsOf, IsUpTo};
+ghost use Rattle.sec_cli.specs.Words.{is_name, leads_zero, texts, number_of, none_read, step, named, word_read, store_read, flag_read, read_all, check_of, replay_of, has_check_options, has_options, verify_of, size_of, demo_of, command_of, AreWithin, AreWordsOf, IsUpTo};
 
 use aiger_codec::read_number;
 
@@ -15,6 +15,8 @@ pub struct Check {
     pub workers: u32,
     /// Whether the classes are printed.
     pub classes: bool,
+    /// Whether the numbers of the journal's entries are printed.
+    pub stats: bool,
     /// Where a trace is stored.
     pub trace: Option<usize>,
     /// Where a certificate is stored.
@@ -76,6 +78,7 @@ pub struct Reading {
     pub k: Option<u32>,
     pub workers: Option<u32>,
     pub classes: bool,
+    pub stats: bool,
     pub trace: Option<usize>,
     pub cert: Option<usize>,
     pub waiting: Waiting,
@@ -149,6 +152,12 @@ fn flag_read(r: Reading, at: usize, word: &[u8]) -> Option<Reading>
             None
         } else {
             Some(Reading { classes: true, ..r })
+        }
+    } else if word == b"--stats".as_slice() {
+        if r.stats {
+            None
+        } else {
+            Some(Reading { stats: true, ..r })
         }
     } else if is_name(word) {
         named(r, at)
@@ -274,6 +283,7 @@ fn read_all(words: &[String]) -> Option<Reading>
         k: None,
         workers: None,
         classes: false,
+        stats: false,
         trace: None,
         cert: None,
         waiting: Waiting::Nothing,
@@ -295,6 +305,7 @@ fn check_of(r: Reading) -> Option<Command>
             k: r.k.unwrap_or(1),
             workers: r.workers.unwrap_or(1),
             classes: r.classes,
+            stats: r.stats,
             trace: r.trace,
             cert: r.cert,
         })),
@@ -302,11 +313,18 @@ fn check_of(r: Reading) -> Option<Command>
     }
 }
 
+// Whether an option was there that `check` alone has.
+fn has_check_options(r: Reading) -> bool
+    ensures { result ≡ has_check_options r }
+{
+    r.classes || r.stats || r.trace.is_some() || r.cert.is_some()
+}
+
 // Whether an option was there.
 fn has_options(r: Reading) -> bool
     ensures { result ≡ has_options r }
 {
-    r.k.is_some() || r.workers.is_some() || r.classes || r.trace.is_some() || r.cert.is_some()
+    r.k.is_some() || r.workers.is_some() || has_check_options(r)
 }
 
 fn replay_of(r: Reading) -> Option<Command>
@@ -357,7 +375,7 @@ fn demo_of(words: &[String], r: Reading) -> Option<Command>
     ensures command { result ≡ demo_of (texts words.now) (Some r) }
     ensures within { IfSome result (AreWordsOf (length words.now)) }
 {
-    if r.classes || r.trace.is_some() || r.cert.is_some() {
+    if has_check_options(r) {
         return None;
     }
     match (r.first, r.second, r.third, r.waiting) {

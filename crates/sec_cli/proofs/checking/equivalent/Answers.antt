@@ -1,4 +1,4 @@
-use Rattle.std.proofs.Common.{◌∙◌, ◌++◌, ℕ, List, ap, ap₂}
+use Rattle.std.proofs.Common.{◌∙◌, ℕ, List, ap, ap₂}
 use Rattle.class_partition.specs.Classes.{class_count}
 use Rattle.sec_cli.specs.Texts.{equivalent_line}
 use Rattle.sec_cli.proofs.Verdicts.{equivalent_answer}
@@ -9,7 +9,6 @@ returns-clause-answer c =
     let pair = c.args.product.now in
     let classes = c.args.classes.now in
     let k = c.args.c.now.k in
-    let (lines, are, text) = c.in_ok-push_classes.ensures in
     let count = c.count.ensures ∙ ap (λ (n : ℕ). class_count n classes) c.requires.partition.least_len in
     let line = c.in_ok-text.ensures.items ∙ c.as_bytes.ensures.value ∙ c.in_ok-line.ensures ∙ ap₂ (equivalent_line k) c.len.ensures.places count in
-    equivalent_answer pair c.args.c.now classes _ _ lines c.requires.sound c.requires.partition c.requires.greatest c.requires.paired c.in_ok-file.ensures are (text ∙ ap (λ (xs : List ℕ). xs ++ lines) line)
+    equivalent_answer pair c.args.c.now classes c.args.journal _ _ _ c.requires.sound c.requires.partition c.requires.greatest c.requires.paired c.in_ok-file.ensures line c.in_ok-push_lines.ensures

@@ -10,8 +10,7 @@ returns-clause-answer c =
     let classes = c.args.classes.now in
     let k = c.args.c.now.k in
     let numbers : List ℕ = with_commas c.args.outputs.now in
-    let (lines, are, text) = c.in_ok-push_classes.ensures in
     let count = c.count.ensures ∙ ap (λ (n : ℕ). class_count n classes) c.requires.partition.least_len in
     let head = c.in_ok-text.ensures.items ∙ c.as_bytes.ensures.value ∙ c.in_ok-line.ensures ∙ ap₂ (undecided_head k) c.len.ensures.places count in
     let line = c.in_ok-push.ensures.items ∙ ap (λ (xs : List ℕ). xs ++ 10 ∷ []) (c.in_ok-push_numbers.ensures ∙ ap (λ (xs : List ℕ). xs ++ numbers) head) in
-    undecided_answer pair c.args.c.now classes c.args.outputs.now _ _ lines c.requires.sound c.requires.partition c.requires.greatest c.requires.agree c.requires.some c.requires.left_out are (text ∙ ap (λ (xs : List ℕ). xs ++ lines) line)
+    undecided_answer pair c.args.c.now classes c.args.journal c.args.outputs.now _ _ _ c.requires.sound c.requires.partition c.requires.greatest c.requires.agree c.requires.some c.requires.left_out line c.in_ok-push_lines.ensures
