@@ -1,0 +1,3 @@
+pub mod LastWord
+pub mod HeaderRead
+pub mod Pieces
