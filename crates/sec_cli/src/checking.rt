@@ -244,6 +244,10 @@ pub(crate) fn check_pair<R: Threads + Wait + Sync, G: Gate>(
     if let Some(diff) = least_difference(alloc, product, c.k)? {
         return different(alloc, product, c, &diff);
     }
-    let Refined { version, journal, .. } = refine(rt, alloc, product, c.k, c.workers, gate)?;
+    let Refined {
+        version,
+        journal,
+        ..
+    } = refine(rt, alloc, product, c.k, c.workers, gate)?;
     answer_by(alloc, product, c, version.classes(), journal)
 }

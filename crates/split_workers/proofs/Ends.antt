@@ -17,7 +17,7 @@ unfolding sum_below
 sum_more zero f g q a lt at others = absurd (omega arith)
 sum_more (suc n) f g q a lt at others = ⊎_elim
     (λ (e : q ≡ n). let last : g n ≡ f n + a = subst (λ i. g i ≡ f i + a) e at in
-        omega (arith, last, sum_same n f g (λ p below. others p (λ is. omega (arith, is, e, below)))))
+    omega (arith, last, sum_same n f g (λ p below. others p (λ is. omega (arith, is, e, below)))))
     (λ (ne : q ≡ n → ⊥). omega (arith, sum_more n f g q a (omega (arith, lt, ne)) at others, others n (λ is. ne (sym is))))
     (cases_eq q n)
 
@@ -53,14 +53,14 @@ all_ones (suc n) f sum few p lt =
     let small : f n < 2 = lt_of_mul-lt-mul_right (2 ^ n) less in
     ⊎_elim
     (λ (e : f n ≡ 1).
-        let one : low + 1 * 2 ^ n + 1 ≡ 2 * 2 ^ n = subst (λ i. low + i * 2 ^ n + 1 ≡ 2 * 2 ^ n) e whole in
-        let rest : low + 1 ≡ 2 ^ n = omega (arith, one) in
-        ⊎_elim (λ (is : p ≡ n). subst (λ i. f i ≡ 1) (sym is) e) (λ (ne : p ≡ n → ⊥). all_ones n f rest (omega (arith, few, e)) p (omega (arith, lt, ne))) (cases_eq p n))
+    let one : low + 1 * 2 ^ n + 1 ≡ 2 * 2 ^ n = subst (λ i. low + i * 2 ^ n + 1 ≡ 2 * 2 ^ n) e whole in
+    let rest : low + 1 ≡ 2 ^ n = omega (arith, one) in
+    ⊎_elim (λ (is : p ≡ n). subst (λ i. f i ≡ 1) (sym is) e) (λ (ne : p ≡ n → ⊥). all_ones n f rest (omega (arith, few, e)) p (omega (arith, lt, ne))) (cases_eq p n))
     (λ (ne : f n ≡ 1 → ⊥).
-        let none : f n ≡ 0 = omega (arith, small, ne) in
-        let left : low + 0 * 2 ^ n + 1 ≡ 2 * 2 ^ n = subst (λ i. low + i * 2 ^ n + 1 ≡ 2 * 2 ^ n) none whole in
-        let rest : low + 1 ≡ 2 ^ n * (1 + 1) = omega (arith, left) in
-        absurd (omega (arith, least_ends n f 1 rest, few, none)))
+    let none : f n ≡ 0 = omega (arith, small, ne) in
+    let left : low + 0 * 2 ^ n + 1 ≡ 2 * 2 ^ n = subst (λ i. low + i * 2 ^ n + 1 ≡ 2 * 2 ^ n) none whole in
+    let rest : low + 1 ≡ 2 ^ n * (1 + 1) = omega (arith, left) in
+    absurd (omega (arith, least_ends n f 1 rest, few, none)))
     (cases_eq (f n) 1)
 
 module _ (entries : List Entry) (e : Entry) where
@@ -77,19 +77,19 @@ module _ (entries : List Entry) (e : Entry) where
   -- an end of a worker adds one, of its weight
   own_done : is_done e.step ≡ true → dones (entries ++ e ∷ []) e.worker ≡ dones entries e.worker + 1
   own_done ending = sum_by_push (λ (x : Entry). cond (is_done x.step && x.worker == e.worker) 1 0) entries e
-    ∙ ap (λ b. dones entries e.worker + cond (b && e.worker == e.worker) 1 0) ending ∙ ap (λ b. dones entries e.worker + cond b 1 0) (eq-eqb e.worker e.worker refl)
+      ∙ ap (λ b. dones entries e.worker + cond (b && e.worker == e.worker) 1 0) ending ∙ ap (λ b. dones entries e.worker + cond b 1 0) (eq-eqb e.worker e.worker refl)
 
   other_dones : is_done e.step ≡ true → (p : ℕ) → (p ≡ e.worker → ⊥) → dones (entries ++ e ∷ []) p ≡ dones entries p
   other_dones ending p ne = sum_by_push (λ (x : Entry). cond (is_done x.step && x.worker == p) 1 0) entries e
-    ∙ ap (λ b. dones entries p + cond (b && e.worker == p) 1 0) ending ∙ ap (λ b. dones entries p + cond b 1 0) (ne_eqb e.worker p (λ is. ne (sym is))) ∙ omega arith
+      ∙ ap (λ b. dones entries p + cond (b && e.worker == p) 1 0) ending ∙ ap (λ b. dones entries p + cond b 1 0) (ne_eqb e.worker p (λ is. ne (sym is))) ∙ omega arith
 
   pub more_ends : (workers : ℕ) → e.worker < workers → is_done e.step ≡ true → ends workers (entries ++ e ∷ []) ≡ ends workers entries + 1
   more_ends workers under ending = sum_more workers (dones entries) (dones (entries ++ e ∷ [])) e.worker 1 under (own_done ending) (other_dones ending)
 
   pub more_weights : (workers : ℕ) → e.worker < workers → is_done e.step ≡ true → weights workers (entries ++ e ∷ []) ≡ weights workers entries + 2 ^ e.worker
   more_weights workers under ending = sum_more workers (λ p. dones entries p * 2 ^ p) (λ p. dones (entries ++ e ∷ []) p * 2 ^ p) e.worker (2 ^ e.worker) under
-    (ap (λ n. n * 2 ^ e.worker) (own_done ending) ∙ omega (arith, add-mul (dones entries e.worker) 1 (2 ^ e.worker)))
-    (λ p ne. ap (λ n. n * 2 ^ p) (other_dones ending p ne))
+      (ap (λ n. n * 2 ^ e.worker) (own_done ending) ∙ omega (arith, add-mul (dones entries e.worker) 1 (2 ^ e.worker)))
+      (λ p ne. ap (λ n. n * 2 ^ p) (other_dones ending p ne))
 
   pub answers_push : answers (entries ++ e ∷ []) ≡ answers entries + cond (is_answer e.step) 1 0
   answers_push = sum_by_push (λ (x : Entry). cond (is_answer x.step) 1 0) entries e

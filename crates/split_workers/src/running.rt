@@ -15,8 +15,8 @@ use refine_board::{Board, Journal, Run};
 use sec_base::Gate;
 use std::alloc::{AllocError, Global};
 use std::marker::Brand;
-use std::sync::ledger::{Blank, Ledger};
 use std::sync::Wait;
+use std::sync::ledger::{Blank, Ledger};
 use std::thread;
 use std::thread::Threads;
 use verdict_stamp::Version;
@@ -77,9 +77,7 @@ fn refine_named<
             requires fresh { (seat.ended ≡ 0) × (seat.owed ≡ 0) }
             requires opening { (opening.now.pair ≡ L.pair) × (opening.now.k ≡ L.k) }
             ensures { IfSome result (HasEnded seat.party) }
-        {
-            work(rt, alloc, shared, gate, seat, opening)
-        },
+        { work(rt, alloc, shared, gate, seat, opening) },
     )?;
     let Some((version, journal)) = room.close(told) else {
         return Err(AllocError);

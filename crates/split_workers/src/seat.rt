@@ -109,11 +109,7 @@ impl<E: Ledger, O: Ledger> Ledgers<E, O> {
             let Some(seat) = back else {
                 return false;
             };
-            let Seat {
-                weight,
-                owed,
-                ..
-            } = seat;
+            let Seat { weight, owed, .. } = seat;
             weights.merge(weight);
             parts.merge(owed);
         }

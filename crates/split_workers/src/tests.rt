@@ -91,7 +91,11 @@ impl Meeting {
 
 // The worker's flag of two, and the other's.
 fn own_and_other(flags: &[AtomicU64; 2], worker: u32) -> (&AtomicU64, &AtomicU64) {
-    if worker == 0 { (&flags[0], &flags[1]) } else { (&flags[1], &flags[0]) }
+    if worker == 0 {
+        (&flags[0], &flags[1])
+    } else {
+        (&flags[1], &flags[0])
+    }
 }
 
 impl Gate for Meeting {
@@ -160,7 +164,11 @@ fn two_workers_meet(rt: HostRuntime) -> Result<(), Fail> {
         return Ok(());
     };
     let gate = Meeting::new();
-    let Refined { version, journal, .. } = refine(&rt, alloc, &product, 1, 2, &gate)?;
+    let Refined {
+        version,
+        journal,
+        ..
+    } = refine(&rt, alloc, &product, 1, 2, &gate)?;
     assert!(rt; gate.is_met());
     assert!(rt; version.classes().count() == 9);
     assert!(rt; ends_of(&journal, 0) == 1 && ends_of(&journal, 1) == 1);

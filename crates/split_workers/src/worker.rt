@@ -186,7 +186,14 @@ impl<'p, L: Run, E: Ledger, O: Ledger> Room<'p, L, E, O> {
             return Turn::Stopped;
         }
         match prover.prove(alloc, offer.pair()) {
-            Ok(Proof::Holds(verdict)) => self.keep(rt, gate, next_call(call), seat, offer, &verdict),
+            Ok(Proof::Holds(verdict)) => self.keep(
+                rt,
+                gate,
+                next_call(call),
+                seat,
+                offer,
+                &verdict,
+            ),
             Ok(Proof::Splits(vector)) => pocket.push_reserved(Found { offer, vector }),
             Err(_) => {
                 self.give_back(rt, seat, offer);
@@ -263,7 +270,9 @@ impl<'p, L: Run, E: Ledger, O: Ledger> Room<'p, L, E, O> {
                 self.prove(rt, alloc, gate, party, call, prover, seat, pocket, offer)
             }
             Asked::Anew(offer, version) => {
-                self.prove_anew(rt, alloc, gate, party, call, prover, seat, pocket, offer, version)
+                self.prove_anew(
+                    rt, alloc, gate, party, call, prover, seat, pocket, offer, version,
+                )
             }
             Asked::Idle | Asked::Moved => {
                 self.hand_in(rt, gate, party, call, seat, pocket);
@@ -338,7 +347,16 @@ pub(crate) fn work<'p, L: Run, E: Ledger, O: Ledger, G: Gate>(
     let mut pocket = Vec::new(alloc);
     let mut call: u64 = 0;
     for _turn in rt.forever() {
-        match room.turn(rt, alloc, gate, party, &mut call, &mut prover, &mut seat, &mut pocket) {
+        match room.turn(
+            rt,
+            alloc,
+            gate,
+            party,
+            &mut call,
+            &mut prover,
+            &mut seat,
+            &mut pocket,
+        ) {
             Turn::On => {}
             Turn::Ended => return Some(seat),
             Turn::Stopped => return None,

@@ -24,27 +24,27 @@ invariant_of-self-2 g c =
     let own : party ≡ c.args.seat.now.party = c.party.ensures in
     let under : party < workers = subst (λ p. p < workers) (sym own) c.requires.party in
     elim c.match-take.branch [
-      in-Ok-Offer w ↦
-        let p = w.in-Ok-Offer.offer.pair in
-        let mine : w.in-Ok-Offer.offer.party ≡ party = (subst (λ t. IsOwnOffer i.board party t) w.in-Ok-Offer.field-0-is w.in-Ok-Offer.ensures.ok.1).0 in
-        let adds = subst (λ t. Appends places i.board c.take.new.self party (taken t)) w.in-Ok-Offer.field-0-is w.in-Ok-Offer.ensures.ok.0 in
-        let more : Totals = record i.ledgers { owed = i.ledgers.owed + 1 } in
-        let out : IsDesk pair k workers (held c.take.new.self i.stopped) more E O =
-            desk_step pair k workers i.board c.take.new.self i.stopped i.stopped party (Offered p) i.ledgers more E O c.self.invariant adds under
-            (λ of. makes places party (Offered p) i.board.state c.take.new.self.state adds.0.2) (λ was. was) tt refl refl refl (omega arith) in
-        rw w.self-inside-is (⊎_elim
-            (λ stays. rw (stays.0, stays.1) out)
-            (λ back. desk_step pair k workers c.take.new.self w.hand_out.new.board i.stopped w.hand_out.new.stopped w.in-Ok-Offer.offer.party (Back p) more w.hand_out.new.ledgers E O out back.0 (subst (λ q. q < workers) (sym mine) under)
-                (λ of. makes places w.in-Ok-Offer.offer.party (Back p) c.take.new.self.state w.hand_out.new.board.state back.0.0.2) (λ was. back.1) back.1 refl
-                (ap (λ (t : Totals). t.weights) back.2) (ap (λ (t : Totals). t.ends) back.2) (rw back.2 (omega arith)))
-            w.hand_out.ensures.goes)
-    | in-Ok-Idle w ↦
-        let adds = subst (λ t. Appends places i.board c.take.new.self party (taken t)) w.in-Ok-Idle.field-0-is w.in-Ok-Idle.ensures.ok.0 in
-        rw w.self-inside-is (desk_step pair k workers i.board c.take.new.self i.stopped i.stopped party Idle i.ledgers i.ledgers E O c.self.invariant adds under
-            (λ of. makes places party Idle i.board.state c.take.new.self.state adds.0.2) (λ was. was) tt refl refl refl refl)
-    | in-Ok-Done w ↦
-        rw w.self-inside-is (desk_ended pair k workers i.board c.take.new.self i.stopped party i.ledgers w.end.new.ledgers E O c.self.invariant
-            (subst (λ t. Appends places i.board c.take.new.self party (taken t)) w.in-Ok-Done.field-0-is w.in-Ok-Done.ensures.ok.0) under w.end.ensures.greatest (w.end.ensures.weights ∙ ap (λ q. i.ledgers.weights + 2 ^ q) (sym own)) w.end.ensures.ends w.end.ensures.owed)
-    | in-Err w ↦
-        rw w.self-inside-is (desk_same pair k workers i.board c.take.new.self i.stopped true i.ledgers E O c.self.invariant w.in-Err.ensures.err.0 w.in-Err.ensures.err.1 (λ was. refl))
+      | in-Ok-Offer w ↦
+          let p = w.in-Ok-Offer.offer.pair in
+          let mine : w.in-Ok-Offer.offer.party ≡ party = (subst (λ t. IsOwnOffer i.board party t) w.in-Ok-Offer.field-0-is w.in-Ok-Offer.ensures.ok.1).0 in
+          let adds = subst (λ t. Appends places i.board c.take.new.self party (taken t)) w.in-Ok-Offer.field-0-is w.in-Ok-Offer.ensures.ok.0 in
+          let more : Totals = record i.ledgers { owed = i.ledgers.owed + 1 } in
+          let out : IsDesk pair k workers (held c.take.new.self i.stopped) more E O =
+          desk_step pair k workers i.board c.take.new.self i.stopped i.stopped party (Offered p) i.ledgers more E O c.self.invariant adds under
+          (λ of. makes places party (Offered p) i.board.state c.take.new.self.state adds.0.2) (λ was. was) tt refl refl refl (omega arith) in
+          rw w.self-inside-is (⊎_elim
+          (λ stays. rw (stays.0, stays.1) out)
+          (λ back. desk_step pair k workers c.take.new.self w.hand_out.new.board i.stopped w.hand_out.new.stopped w.in-Ok-Offer.offer.party (Back p) more w.hand_out.new.ledgers E O out back.0 (subst (λ q. q < workers) (sym mine) under)
+          (λ of. makes places w.in-Ok-Offer.offer.party (Back p) c.take.new.self.state w.hand_out.new.board.state back.0.0.2) (λ was. back.1) back.1 refl
+          (ap (λ (t : Totals). t.weights) back.2) (ap (λ (t : Totals). t.ends) back.2) (rw back.2 (omega arith)))
+          w.hand_out.ensures.goes)
+      | in-Ok-Idle w ↦
+          let adds = subst (λ t. Appends places i.board c.take.new.self party (taken t)) w.in-Ok-Idle.field-0-is w.in-Ok-Idle.ensures.ok.0 in
+          rw w.self-inside-is (desk_step pair k workers i.board c.take.new.self i.stopped i.stopped party Idle i.ledgers i.ledgers E O c.self.invariant adds under
+          (λ of. makes places party Idle i.board.state c.take.new.self.state adds.0.2) (λ was. was) tt refl refl refl refl)
+      | in-Ok-Done w ↦
+          rw w.self-inside-is (desk_ended pair k workers i.board c.take.new.self i.stopped party i.ledgers w.end.new.ledgers E O c.self.invariant
+          (subst (λ t. Appends places i.board c.take.new.self party (taken t)) w.in-Ok-Done.field-0-is w.in-Ok-Done.ensures.ok.0) under w.end.ensures.greatest (w.end.ensures.weights ∙ ap (λ q. i.ledgers.weights + 2 ^ q) (sym own)) w.end.ensures.ends w.end.ensures.owed)
+      | in-Err w ↦
+          rw w.self-inside-is (desk_same pair k workers i.board c.take.new.self i.stopped true i.ledgers E O c.self.invariant w.in-Err.ensures.err.0 w.in-Err.ensures.err.1 (λ was. refl))
     ]
