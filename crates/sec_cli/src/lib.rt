@@ -10,6 +10,8 @@ mod ending;
 mod lines;
 mod loading;
 #[cfg(test)]
+mod meeting;
+#[cfg(test)]
 mod plain;
 mod replaying;
 mod telling;

@@ -1,11 +1,12 @@
 ghost use Rattle.std.specs.Prelude.{◌≢◌};
 
 use super::*;
+use crate::meeting::Meeting;
 use crate::plain::{few_free_bits, plain_classes};
 use aiger_file::read_netlist;
 use class_partition::Classes;
 use product_machine::Product;
-use sec_base::{FreeGate, MemShelf, MemSink, SureShelf, SureSink};
+use sec_base::{FreeGate, Gate, MemShelf, MemSink, SureShelf, SureSink};
 use std::alloc::{AllocError, Global};
 use std::sync::Wait;
 use std::test::Fail;
@@ -492,6 +493,38 @@ fn any_number_of_workers_tells_the_same(rt: HostRuntime) -> Result<(), Fail> {
     for row in rows.iter() {
         assert!(rt; answers_so(&rt, alloc, row)?);
     }
+    Ok(())
+}
+
+// Whether a run whose workers are held at a gate ends so.
+fn answers_at<R: Threads + Wait + Sync, G: Gate>(
+    rt: &R,
+    alloc: Global,
+    row: &Row,
+    gate: &G,
+) -> Result<bool, AllocError> {
+    let words = words_of(alloc, row.words)?;
+    let Some(mut shelf) = shelf_of(alloc, row, Vec::new(alloc)) else {
+        return Ok(false);
+    };
+    let (Ok(mut out), Ok(mut err)) = (
+        MemSink::with_room(alloc, 400, Vec::new(alloc)),
+        MemSink::with_room(alloc, 400, Vec::new(alloc)),
+    ) else {
+        return Ok(false);
+    };
+    let report = run(rt, alloc, &words, &mut shelf, &mut out, &mut err, gate);
+    Ok(report.status == row.status && out.bytes() == row.out.as_bytes())
+}
+
+#[test]
+fn two_workers_of_a_check_meet(rt: HostRuntime) -> Result<(), Fail> {
+    let alloc = rt.alloc();
+    let open = "undecided k=1 signals=12 classes=9 unpaired=0\n";
+    let row = case("sec check left right -j 2", DELAY, MASKED, 2, open, "");
+    let gate = Meeting::new();
+    assert!(rt; answers_at(&rt, alloc, &row, &gate)?);
+    assert!(rt; gate.is_met());
     Ok(())
 }
 
