@@ -1,5 +1,6 @@
 -- What a call's answer says of its entry.
 use Rattle.std.specs.Prelude.{◌≡◌, ℕ, List, Bool}
+use Rattle.circ_model.specs.Meaning.{Pair}
 use Rattle.class_partition.specs.declared.classes.Needed.{Needed}
 use Rattle.refine_board.specs.declared.journal.Step.{Step}
 use Rattle.refine_board.specs.declared.journal.Step.TheVariants as step
@@ -9,7 +10,7 @@ use Rattle.refine_board.specs.declared.answers.Kept.{Kept}
 use Rattle.refine_board.specs.declared.answers.Kept.TheVariants as kept_as
 use Rattle.refine_board.specs.declared.answers.Cut.{Cut}
 use Rattle.refine_board.specs.declared.answers.Cut.TheVariants as cut_as
-use Rattle.refine_board.specs.Running.{Running}
+use Rattle.refine_board.specs.Running.{Running, IsUnder}
 
 -- what a party is answered that asks for work
 abbrev pub taken : {L : Type 0} → Take L → Step
@@ -22,6 +23,12 @@ abbrev pub IsOwnOffer : {L : Type 0} → Running → ℕ → Take L → Type 0
 IsOwnOffer before party (Offer o) = (o.party ≡ party) × (o.number ≡ before.state.number)
 IsOwnOffer before party Idle = Unit {0}
 IsOwnOffer before party Done = Unit {0}
+
+-- its version is of this pair of netlists and this k, with the board's classes and number
+abbrev pub IsCurrentOffer : {L : Type 0} → Pair → ℕ → Running → Take L → Type 0
+IsCurrentOffer pair k before (Offer o) = IsUnder pair k before.state.classes o.stamp.value × (o.stamp.value.number ≡ before.state.number)
+IsCurrentOffer pair k before Idle = Unit {0}
+IsCurrentOffer pair k before Done = Unit {0}
 
 -- what came of a verdict
 abbrev pub kept_step : Kept → Needed → Step

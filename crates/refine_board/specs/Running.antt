@@ -1,12 +1,14 @@
 -- What is true of a running board at every moment, and what a call adds.
-use Rattle.std.specs.Prelude.{◌≡◌, ℕ, ◌+◌, ◌<◌, ◌≤◌, List, [], ◌∷◌, ◌++◌, ◌^◌, length, slice_index, slice_index_or, set, ◌≢◌, ◌==◌, if◌then◌else◌, Option, Some, None}
+use Rattle.std.specs.Prelude.{◌≡◌, ℕ, ◌+◌, ◌<◌, ◌≤◌, List, [], ◌∷◌, ◌++◌, ◌^◌, length, slice_index, slice_index_or, set, ◌≢◌, ◌==◌, if◌then◌else◌, Option, Some, None, IfSome}
 use Rattle.std.specs.List.{All}
+use Rattle.boxcar.specs.Table.{Shelves, Shows}
 use Rattle.circ_model.specs.Meaning.{Pair, places_of}
 use Rattle.circ_model.specs.Correspondence.{MaySplit}
 use Rattle.class_partition.specs.declared.classes.Needed.{Needed}
 use Rattle.class_partition.specs.Classes.{Classes, HoldIn, IsNeeded, least_of}
 use Rattle.verdict_stamp.specs.Versions.{Standing, Passed}
 use Rattle.verdict_stamp.specs.Versions as vector
+use Rattle.verdict_stamp.specs.Published.{Stamped, IsStampOf}
 use Rattle.refine_board.specs.declared.marks.Mark.{Mark}
 use Rattle.refine_board.specs.declared.marks.Mark.TheVariants.{Open, Proved}
 use Rattle.refine_board.specs.declared.marks.LastOffer.{LastOffer}
@@ -36,13 +38,15 @@ pub record IsRunning (pair : Pair) (k workers : ℕ) (opening state : State) (en
   pub few : (q : ℕ) → slice_index state.calls q ≤ length entries
   pub within : (q : ℕ) (o : LastOffer) → offer_of state q ≡ Some o → o.pair.member < places_of pair
 
--- the versions, now and at the opening, are of the run
-pub record IsOfRun (pair : Pair) (k workers : ℕ) (opening : State) (version first : Standing) : Type 0 where
+-- the versions, now and at the opening, are of the run; so is the list of published ones, and the current stamp names the version as it stands
+pub record IsOfRun (pair : Pair) (k workers : ℕ) (opening : State) (version first : Standing) (list shelves : Shelves) (current : Option Stamped) : Type 0 where
   pub pair_is : version.pair ≡ pair
   pub k_is : version.k ≡ k
   pub first_pair : first.pair ≡ pair
   pub first_k : first.k ≡ k
   pub opening_is : opening ≡ opened pair workers first.classes first.number
+  pub list_is : shelves ≡ list
+  pub current_is : IfSome current (λ s. IsStampOf list s version)
 
 -- no place below the cursor is open
 abbrev pub IsPassedBy : ℕ → State → ℕ → Type 0
@@ -77,11 +81,28 @@ IsExtended party before after = (more : List Entry) × (after ≡ before ++ more
 abbrev pub IsAsked : Standing → Needed → Type 0
 IsAsked v p = IsNeeded (places_of v.pair) v.classes p.member × (p.rep ≡ least_of v.classes p.member)
 
--- an answer that is owed
+-- a pair for which a party owes an answer
+pub record Indebted : Type 0 where
+  pub party : ℕ
+  pub pair : Needed
+  pub number : ℕ
+
+-- an answer that is owed, and the stamp of the version under which it is sought
 pub record Owed : Type 0 where
   pub party : ℕ
   pub pair : Needed
   pub number : ℕ
+  pub stamp : Stamped
+
+abbrev pub owed_of : Indebted → Stamped → Owed
+owed_of debt stamp = record { party = debt.party; pair = debt.pair; number = debt.number; stamp = stamp }
+
+-- the stamp is of the run's list, and the pair is one of its version, which is of the run's netlists and k
+pub record IsOwed (pair : Pair) (k : ℕ) (list : Shelves) (owed : Owed) : Type 0 where
+  pub listed : Shows list owed.stamp
+  pub pair_is : owed.stamp.value.pair ≡ pair
+  pub k_is : owed.stamp.value.k ≡ k
+  pub asked : IsAsked owed.stamp.value owed.pair
 
 -- the verdict is of the pair
 abbrev pub IsAbout : Passed → Needed → Type 0

@@ -1,5 +1,6 @@
 -- A board of refinement as plain data, and the changes that its entries make.
 use Rattle.std.specs.Prelude.{◌≡◌, ◌==◌, ℕ, ◌+◌, ◌<◌, List, [], set, replicate, if◌then◌else◌, slice_index, slice_index_or, Option, Some, None}
+use Rattle.boxcar.specs.Table.{Shelves}
 use Rattle.circ_model.specs.Netlist.{Netlist}
 use Rattle.circ_model.specs.Meaning.{Pair}
 use Rattle.class_partition.specs.declared.classes.Needed.{Needed}
@@ -74,3 +75,6 @@ no_pair = record { left = no_net; right = no_net }
 
 abbrev pub no_state : State
 no_state = record { classes = record { least = []; phase = [] }; number = 0; marks = []; calls = []; offers = [] }
+
+abbrev pub no_list : Shelves
+no_list = record { tag = []; buckets = [] }

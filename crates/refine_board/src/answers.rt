@@ -1,59 +1,96 @@
 //! What the calls of a board hand out.
 ghost use Rattle.std.specs.Prelude.{◌≡◌};
+ghost use Rattle.refine_board.specs.Running.{IsOwed};
 
 use crate::run::Run;
 use class_partition::Needed;
 use std::marker::Model;
 use std::sync::ledger::Share;
+use verdict_stamp::Stamp;
 
-/// A pair that was given to a party, which owes the board an answer for it: a unit of the run's ledger.
+/// A pair that a party has, for which it owes the board an answer: a unit of the run's ledger.
 #[derive(Drop)]
-pub struct Offer<L: Run> {
+pub(crate) struct Debt<L: Run> {
     pub(crate) party: u32,
     pub(crate) pair: Needed,
     pub(crate) number: u32,
     pub(crate) unit: Share<L>,
 }
 
-impl<L: Run> Model for Offer<L> {
+impl<L: Run> Model for Debt<L> {
     ghost use Rattle.std.specs.Prelude.{◌≡◌, ◌<◌, ◌+◌};
-    ghost use Rattle.refine_board.specs.Running.{Owed};
+    ghost use Rattle.refine_board.specs.Running.{Indebted};
+
+    ghost Value = { Indebted };
+
+    ghost view = { λ d. record { party = d.party; pair = d.pair; number = d.number } };
+
+    ghost invariant = { λ d. (d.unit.amount ≡ 1) × (d.party < L.workers + 1) };
+}
+
+/// A pair that was given to a party, which owes the board an answer for it, and the stamp of the version under which it is to
+/// be proved: a version of the run's list, with the classes that the board had when the offer was made.
+#[derive(Drop)]
+pub struct Offer<'p, L: Run> {
+    pub(crate) debt: Debt<L>,
+    pub(crate) stamp: Stamp<'p>,
+}
+
+impl<'p, L: Run> Model for Offer<'p, L> {
+    ghost use Rattle.refine_board.specs.Running.{Owed, owed_of, IsOwed};
 
     ghost Value = { Owed };
 
-    ghost view = { λ o. record { party = o.party; pair = o.pair; number = o.number } };
+    ghost view = { λ o. owed_of o.debt o.stamp };
 
-    ghost invariant = { λ o. (o.unit.amount ≡ 1) × (o.party < L.workers + 1) };
+    ghost invariant = { λ o. IsOwed L.pair L.k L.list (owed_of o.debt o.stamp) };
 }
 
-impl<L: Run> Offer<L> {
+impl<'p, L: Run> Offer<'p, L> {
     /// The party.
     pub fn party(&self) -> u32
         ensures { result ≡ self.now.party }
     {
-        self.party
+        self.debt.party
     }
 
     /// The pair.
     pub fn pair(&self) -> Needed
         ensures { result ≡ self.now.pair }
     {
-        self.pair
+        self.debt.pair
     }
 
     /// The board's number when the offer was made.
     pub fn number(&self) -> u32
         ensures { result ≡ self.now.number }
     {
-        self.number
+        self.debt.number
+    }
+
+    /// The stamp of the version under which the pair is to be proved.
+    pub fn stamp(&self) -> &Stamp<'p>
+        ensures stamp { result.now ≡ self.entry.now.stamp }
+        ensures owed { IsOwed L.pair L.k L.list self.entry.now }
+    {
+        &self.stamp
+    }
+
+    // What the party owes.
+    pub(crate) fn into_debt(self) -> Debt<L>
+        ensures party { result.party ≡ self.entry.party }
+        ensures pair { result.pair ≡ self.entry.pair }
+    {
+        let Offer { debt, .. } = self;
+        debt
     }
 }
 
 /// What a party is answered that asks for work.
 #[derive(Drop)]
-pub enum Take<L: Run> {
+pub enum Take<'p, L: Run> {
     /// The open pair with the least member.
-    Offer(Offer<L>),
+    Offer(Offer<'p, L>),
     /// No pair is open, and some is out.
     Idle,
     /// Each needed pair is counted.

@@ -2,12 +2,14 @@
 //! number and its answer, and changes the state as that entry does; between the calls the journal is legal, and leads from
 //! the opening to the state.
 ghost use Rattle.std.specs.Prelude.{◌≡◌, ◌≢◌, ◌<◌, ◌≤◌, ◌+◌, ◌^◌, ◌↔◌, [], ℕ, IsTrue, IfOk, OnErr, true, false};
+ghost use Rattle.boxcar.specs.Table.{Shows};
 ghost use Rattle.circ_model.specs.Meaning.{places_of};
 ghost use Rattle.class_partition.specs.Classes.{AreOfGreatest};
 ghost use Rattle.refine_board.specs.States.{AllCounted};
 ghost use Rattle.refine_board.specs.Schedules.{Leads, opened};
 ghost use Rattle.refine_board.specs.Running.{Appends, IsAbout, IsUnder, IsOf};
-ghost use Rattle.refine_board.specs.Answers.{taken, IsOwnOffer, kept_step, cut_step};
+ghost use Rattle.refine_board.specs.Answers.{taken, IsCurrentOffer, IsOwnOffer, kept_step, cut_step};
+ghost use Rattle.verdict_stamp.specs.Published.{IsStampOf};
 
 use crate::answers::{Cut, Kept, Offer, Take};
 use crate::journal::{Journal, Step};
@@ -16,15 +18,20 @@ use crate::run::Run;
 use crate::same::is_under;
 use std::alloc::{AllocError, Global};
 use std::marker::Model;
+use std::sync::Wait;
 use std::sync::ledger::{Blank, Book, Share};
-use verdict_stamp::{Vector, Verdict, Version};
+use verdict_stamp::{Stamp, Vector, Verdict, Version, Versions};
 
 /// The shared board of a run. Its parties are the workers, and one more that works alone at the end. Contracts see its state,
-/// its journal's entries, and the room in the journal that no answer is owed.
+/// its journal's entries, and the room in the journal that no answer is owed. Its version, as it stands, is published once
+/// between two splits: a copy in the run's list, which offers name by its stamp.
 #[derive(Drop)]
-pub struct Board<'p, L: Run> {
+pub struct Board<'v, 'p, L: Run> {
+    pub(crate) alloc: Global,
     pub(crate) version: Version<'p>,
     pub(crate) first: Version<'p>,
+    pub(crate) versions: &'v Versions<'p>,
+    pub(crate) current: Option<Stamp<'p>>,
     pub(crate) marks: Vec<Mark>,
     pub(crate) calls: Vec<u64>,
     pub(crate) offers: Vec<Option<LastOffer>>,
@@ -35,7 +42,7 @@ pub struct Board<'p, L: Run> {
     pub(crate) waiting: usize,
 }
 
-impl<'p, L: Run> Model for Board<'p, L> {
+impl<'v, 'p, L: Run> Model for Board<'v, 'p, L> {
     ghost use Rattle.std.specs.Prelude.{◌-◌, length};
     ghost use Rattle.circ_model.specs.Meaning.{places_of};
     ghost use Rattle.refine_board.specs.Running.{Running, IsRunning, IsOfRun, IsHeld, state_of};
@@ -45,24 +52,27 @@ impl<'p, L: Run> Model for Board<'p, L> {
     ghost view = { λ b. record { state = state_of b.version b.marks.items b.calls.items b.offers.items; entries = b.journal.entries; room = b.journal.room - b.owed.total } };
 
     ghost invariant = { λ b. IsRunning L.pair L.k L.workers L.opening (state_of b.version b.marks.items b.calls.items b.offers.items) b.journal.entries
-        × IsOfRun L.pair L.k L.workers L.opening b.version b.first
+        × IsOfRun L.pair L.k L.workers L.opening b.version b.first L.list b.versions.now b.current
         × IsHeld (places_of L.pair) (state_of b.version b.marks.items b.calls.items b.offers.items) b.cursor b.waiting b.owed.total b.journal.room (length b.journal.entries) L.parts b.rest.parts };
 }
 
-impl<'p, L: Run> Board<'p, L> {
-    /// The board on which a run begins: all pairs are open. The blank's ledger is the run's.
+impl<'v, 'p, L: Run> Board<'v, 'p, L> {
+    /// The board on which a run begins: all pairs are open. The blank's ledger is the run's, and so is the list, to which the
+    /// board adds its versions.
     pub fn open(
         alloc: Global,
         blank: Blank,
+        versions: &'v Versions<'p>,
         first: Version<'p>,
         workers: u32,
-    ) -> Result<Board<'p, L>, AllocError>
+    ) -> Result<Board<'v, 'p, L>, AllocError>
         requires name { (blank.name ≡ L.name) × (blank.parts ≡ L.parts) }
         requires parts { 2 ^ 62 ≤ L.parts }
         requires product { first.pair ≡ L.pair }
         requires k { first.k ≡ L.k }
         requires workers { workers ≡ L.workers }
         requires opening { L.opening ≡ opened L.pair L.workers first.classes first.number }
+        requires list { L.list ≡ versions.now }
         ensures { IfOk result (λ b. (b.state ≡ L.opening) × (b.entries ≡ [])) }
     {
         let version = first.copy(alloc)?;
@@ -73,8 +83,11 @@ impl<'p, L: Run> Board<'p, L> {
         let offers = no_offers(alloc, parties)?;
         let (owed, rest) = blank.open::<L>();
         Ok(Board {
+            alloc,
             version,
             first,
+            versions,
+            current: None,
             marks,
             calls,
             offers,
@@ -87,16 +100,19 @@ impl<'p, L: Run> Board<'p, L> {
     }
 
     /// Gives the party the open pair with the least member, or says why there is none. It makes the room of the answer's
-    /// entry too, so the answers below take no memory.
-    pub fn take(&mut self, party: u32) -> Result<Take<L>, AllocError>
+    /// entry too, so the answers below take no memory. The first offer after a split publishes the version; an `Err` is want
+    /// of memory.
+    pub fn take(&mut self, rt: &impl Wait, party: u32) -> Result<Take<'p, L>, AllocError>
         requires party { party < L.workers + 1 }
         ensures ok { IfOk result (λ t. Appends (places_of L.pair) self.old self.new party (taken t) × IsOwnOffer self.old party t) }
+        ensures version { IfOk result (IsCurrentOffer L.pair L.k self.old) }
         ensures err { OnErr result ((self.new.state ≡ self.old.state) × (self.new.entries ≡ self.old.entries)) }
     {
         self.spare()?;
         let at = self.seek();
         if at < self.places() {
-            return Ok(Take::Offer(self.offer(party, at)));
+            let stamp = self.published(rt)?;
+            return Ok(Take::Offer(self.offer(party, at, stamp)));
         }
         if self.is_some_out() {
             self.idle(party);
@@ -107,15 +123,21 @@ impl<'p, L: Run> Board<'p, L> {
     }
 
     /// Counts the offer's pair, where the verdict was found for the run's netlists and k under the board's classes. Else the
-    /// verdict is outdated.
-    pub fn keep(&mut self, offer: Offer<L>, verdict: &Verdict<'_, '_>) -> Kept
+    /// verdict is outdated. The stamp is that of the verdict's version. Where it is the board's own, nothing is compared.
+    pub fn keep(
+        &mut self,
+        offer: Offer<'p, L>,
+        verdict: &Verdict<'_, '_>,
+        stamp: &Stamp<'p>,
+    ) -> Kept
         requires about { IsAbout verdict.now offer.pair }
-        ensures step { Appends (places_of L.pair) self.old self.new offer.party (kept_step result offer.pair) }
+        requires stamp { IsStampOf L.list stamp.now verdict.now.version }
+        ensures step { Appends (places_of L.pair) self.old self.new offer.entry.party (kept_step result offer.entry.pair) }
         ensures counted { result ≡ Kept.Counted → IsUnder L.pair L.k self.old.state.classes verdict.now.version }
         ensures stale { result ≡ Kept.Stale → IsUnder L.pair L.k self.old.state.classes verdict.now.version → ⊥ }
     {
-        let current = self.is_at(verdict.version());
-        let (party, pair) = self.settle(offer);
+        let current = self.stands_at(stamp, verdict.version());
+        let (party, pair) = self.settle(offer.into_debt());
         if current {
             self.count(party, pair, verdict);
             return Kept::Counted;
@@ -126,14 +148,14 @@ impl<'p, L: Run> Board<'p, L> {
 
     /// Splits the classes by a vector that was found for the offer, where it is of the run's netlists and k. A split opens
     /// each needed pair. Nothing splits the classes of the greatest correspondence.
-    pub fn split(&mut self, offer: Offer<L>, vector: Vector<'_>) -> Cut
-        ensures step { Appends (places_of L.pair) self.old self.new offer.party (cut_step result vector.entry.bits) }
+    pub fn split(&mut self, offer: Offer<'p, L>, vector: Vector<'_>) -> Cut
+        ensures step { Appends (places_of L.pair) self.old self.new offer.entry.party (cut_step result vector.entry.bits) }
         ensures own { result ≢ Cut.Foreign → IsOf L.pair L.k vector.entry }
         ensures foreign { result ≡ Cut.Foreign → IsOf L.pair L.k vector.entry → ⊥ }
         ensures stays { AreOfGreatest L.pair L.k self.old.state.classes → self.new.state.classes ≡ self.old.state.classes }
     {
         let own = self.is_of_run(&vector);
-        let (party, _) = self.settle(offer);
+        let (party, _) = self.settle(offer.into_debt());
         if own {
             return self.cut(party, vector);
         }
@@ -142,10 +164,10 @@ impl<'p, L: Run> Board<'p, L> {
     }
 
     /// Gives the work back.
-    pub fn back(&mut self, offer: Offer<L>)
-        ensures { Appends (places_of L.pair) self.old self.new offer.party (Step.Back offer.pair) }
+    pub fn back(&mut self, offer: Offer<'p, L>)
+        ensures { Appends (places_of L.pair) self.old self.new offer.entry.party (Step.Back offer.entry.pair) }
     {
-        let (party, pair) = self.settle(offer);
+        let (party, pair) = self.settle(offer.into_debt());
         self.free(party, Step::Back(pair));
     }
 
@@ -171,6 +193,24 @@ impl<'p, L: Run> Board<'p, L> {
     {
         let now = &self.version;
         is_under(version, now.product(), now.k(), now.classes())
+    }
+
+    /// Whether a stamp of the run's list is that of the board's version. Nothing is compared but two indices.
+    pub fn is_stamped(&self, stamp: &Stamp<'p>) -> bool
+        requires { Shows L.list stamp.now }
+        ensures { result ≡ true → IsUnder L.pair L.k self.now.state.classes stamp.now.value }
+    {
+        match &self.current {
+            Some(current) => self.versions.same(current, stamp),
+            None => false,
+        }
+    }
+
+    /// The list to which the board adds its versions.
+    pub fn versions(&self) -> &'v Versions<'p>
+        ensures { result.now ≡ L.list }
+    {
+        self.versions
     }
 
     /// The version on which the board opened, which no call changes.

@@ -10,19 +10,11 @@ use crate::run::Run;
 use std::alloc::{AllocError, Global};
 use verdict_stamp::{Proof, Prover};
 
-// The prover of the board's version.
-fn prover_of<'p, L: Run>(board: &Board<'p, L>, alloc: Global) -> Result<Prover<'p>, AllocError>
-    ensures { IfOk result (λ p. IsUnder L.pair L.k board.entry.now.state.classes p) }
-{
-    let version = board.version().copy(alloc)?;
-    Prover::new(alloc, version)
-}
-
 // Proves the pair of a place, and writes what came of it. Answers whether the classes were split.
-fn decide<'p, L: Run>(
-    board: &mut Board<'p, L>,
+fn decide<L: Run>(
+    board: &mut Board<'_, '_, L>,
     alloc: Global,
-    prover: &Prover<'p>,
+    prover: &Prover<'_, '_>,
     party: u32,
     member: u32,
 ) -> Result<bool, AllocError>
@@ -52,10 +44,10 @@ fn decide<'p, L: Run>(
 }
 
 // The same for a place whose pair is wanted; else nothing.
-fn visit<'p, L: Run>(
-    board: &mut Board<'p, L>,
+fn visit<L: Run>(
+    board: &mut Board<'_, '_, L>,
     alloc: Global,
-    prover: &Prover<'p>,
+    prover: &Prover<'_, '_>,
     party: u32,
     member: u32,
 ) -> Result<bool, AllocError>
@@ -74,13 +66,14 @@ fn visit<'p, L: Run>(
 }
 
 // One pass over the places. Answers whether the classes were split.
-fn pass<L: Run>(board: &mut Board<'_, L>, alloc: Global, party: u32) -> Result<bool, AllocError>
+fn pass<L: Run>(board: &mut Board<'_, '_, L>, alloc: Global, party: u32) -> Result<bool, AllocError>
     requires party { party < L.workers + 1 }
     ensures entries { IsExtended party board.old.entries board.new.entries }
     ensures split { IfOk result (λ s. s ≡ true → class_count (places_of L.pair) board.old.state.classes < class_count (places_of L.pair) board.new.state.classes) }
     ensures counted { IfOk result (λ s. s ≡ false → AllCounted (places_of L.pair) board.new.state) }
 {
-    let prover = prover_of(board, alloc)?;
+    let version = board.version().copy(alloc)?;
+    let prover = Prover::new(alloc, &version)?;
     for p in 0..board.places() {
         if visit(board, alloc, &prover, party, p)? {
             return Ok(true);
@@ -91,7 +84,11 @@ fn pass<L: Run>(board: &mut Board<'_, L>, alloc: Global, party: u32) -> Result<b
 
 /// Works until each needed pair is counted, as one party. What is open it takes and answers; a pair that is out it proves too,
 /// and writes that answer as its own.
-pub fn finish<L: Run>(board: &mut Board<'_, L>, alloc: Global, party: u32) -> Result<(), AllocError>
+pub fn finish<L: Run>(
+    board: &mut Board<'_, '_, L>,
+    alloc: Global,
+    party: u32,
+) -> Result<(), AllocError>
     requires party { party < L.workers + 1 }
     ensures entries { IsExtended party board.old.entries board.new.entries }
     ensures counted { IfOk result (λ _. AllCounted (places_of L.pair) board.new.state) }

@@ -2,9 +2,11 @@
 use std::marker::Brand;
 use std::sync::ledger::Ledger;
 
-/// Names one run: its pair of netlists, its k, its number of workers and the board on which it opens.
+/// Names one run: its pair of netlists, its k, its number of workers, the board on which it opens and the list of its
+/// published versions.
 pub trait Run: Ledger {
     ghost use Rattle.std.specs.Prelude.{ℕ};
+    ghost use Rattle.boxcar.specs.Table.{Shelves};
     ghost use Rattle.circ_model.specs.Meaning.{Pair};
     ghost use Rattle.refine_board.specs.States.{State};
 
@@ -15,10 +17,12 @@ pub trait Run: Ledger {
     ghost workers: { ℕ };
 
     ghost opening: { State };
+
+    ghost list: { Shelves };
 }
 
 impl Run for Brand {
-    ghost use Rattle.refine_board.specs.States.{no_pair, no_state};
+    ghost use Rattle.refine_board.specs.States.{no_list, no_pair, no_state};
 
     ghost pair = { no_pair };
 
@@ -27,4 +31,6 @@ impl Run for Brand {
     ghost workers = { 0 };
 
     ghost opening = { no_state };
+
+    ghost list = { no_list };
 }

@@ -1,21 +1,24 @@
 //! The steps of a board, one for each entry: each changes the state and writes its entry.
-ghost use Rattle.std.specs.Prelude.{◌≡◌, ◌≢◌, ◌<◌, ◌≤◌, ◌+◌, ◌^◌, ℕ, IsTrue, ◌↔◌, length, OnOk, true, false};
+ghost use Rattle.std.specs.Prelude.{◌≡◌, ◌≢◌, ◌<◌, ◌≤◌, ◌+◌, ◌^◌, ℕ, IsTrue, ◌↔◌, length, IfOk, OnOk, true, false};
+ghost use Rattle.boxcar.specs.Table.{Shows};
 ghost use Rattle.circ_model.specs.Meaning.{places_of};
 ghost use Rattle.class_partition.specs.Classes.{AreOfGreatest, IsNeeded, class_count};
 ghost use Rattle.refine_board.specs.States.{IsNeededPair, IsOpen, NoneOpen, SomeOut, AllCounted};
 ghost use Rattle.refine_board.specs.Running.{Appends, AreCountedBelow, Frees, IsAbout, IsCountedAt, IsExtended, IsUnder, IsOf};
 ghost use Rattle.refine_board.specs.Answers.{cut_step};
+ghost use Rattle.verdict_stamp.specs.Published.{IsStampOf};
 
-use crate::answers::{Cut, Offer};
+use crate::answers::{Cut, Debt, Offer};
 use crate::board::Board;
 use crate::journal::Step;
 use crate::marks::{LastOffer, Mark, first_marked, note, open_all, release};
 use crate::run::Run;
 use class_partition::Needed;
 use std::alloc::AllocError;
-use verdict_stamp::{Vector, Verdict};
+use std::sync::Wait;
+use verdict_stamp::{Stamp, Vector, Verdict, Version};
 
-impl<'p, L: Run> Board<'p, L> {
+impl<'v, 'p, L: Run> Board<'v, 'p, L> {
     // Makes room for an entry and its answer.
     pub(crate) fn spare(&mut self) -> Result<(), AllocError>
         ensures state { self.new.state ≡ self.old.state }
@@ -90,8 +93,38 @@ impl<'p, L: Run> Board<'p, L> {
         Needed { rep, member }
     }
 
-    // Offers the first open place.
-    pub(crate) fn offer(&mut self, party: u32, member: u32) -> Offer<L>
+    // The stamp of the version as it stands. Where it has none, a copy of it is published.
+    pub(crate) fn published(&mut self, rt: &impl Wait) -> Result<Stamp<'p>, AllocError>
+        ensures same { self.new ≡ self.old }
+        ensures listed { IfOk result (λ s. Shows L.list s) }
+        ensures under { IfOk result (λ s. IsUnder L.pair L.k self.old.state.classes s.value) }
+        ensures number { IfOk result (λ s. s.value.number ≡ self.old.state.number) }
+    {
+        if let Some(stamp) = &self.current {
+            return Ok(stamp.copy());
+        }
+        let copy = self.version.copy(self.alloc)?;
+        let Ok(stamp) = self.versions.push(rt, copy) else {
+            return Err(AllocError);
+        };
+        let own = stamp.copy();
+        self.current = Some(own);
+        Ok(stamp)
+    }
+
+    // Whether the board stands at a version of the run's list, of which this is the stamp.
+    pub(crate) fn stands_at(&self, stamp: &Stamp<'p>, version: &Version<'_>) -> bool
+        requires stamp { IsStampOf L.list stamp.now version.now }
+        ensures { IsTrue result ↔ IsUnder L.pair L.k self.now.state.classes version.now }
+    {
+        if self.is_stamped(stamp) {
+            return true;
+        }
+        self.is_at(version)
+    }
+
+    // Gives the first open place to a party, which owes its answer.
+    pub(crate) fn lend(&mut self, party: u32, member: u32) -> Debt<L>
         requires party { party < L.workers + 1 }
         requires is_open { IsOpen (places_of L.pair) self.old.state member }
         requires first { (m : ℕ) → m < member → IsOpen (places_of L.pair) self.old.state m → ⊥ }
@@ -122,12 +155,30 @@ impl<'p, L: Run> Board<'p, L> {
         *waiting += 1;
         let mut unit = rest.split_off(1, 0);
         owed.add(&mut unit, 1);
-        Offer {
+        Debt {
             party,
             pair,
             number,
             unit,
         }
+    }
+
+    // Offers the first open place, under a stamp of the board's version.
+    pub(crate) fn offer(&mut self, party: u32, member: u32, stamp: Stamp<'p>) -> Offer<'p, L>
+        requires party { party < L.workers + 1 }
+        requires is_open { IsOpen (places_of L.pair) self.old.state member }
+        requires first { (m : ℕ) → m < member → IsOpen (places_of L.pair) self.old.state m → ⊥ }
+        requires listed { Shows L.list stamp }
+        requires under { IsUnder L.pair L.k self.old.state.classes stamp.value }
+        requires room { 2 ≤ self.old.room }
+        requires few { length self.old.entries < 2 ^ 60 }
+        ensures step { Appends (places_of L.pair) self.old self.new party (Step.Offered result.pair) }
+        ensures party { result.party ≡ party }
+        ensures number { result.number ≡ self.old.state.number }
+        ensures stamp { result.stamp ≡ stamp.entry }
+    {
+        let debt = self.lend(party, member);
+        Offer { debt, stamp }
     }
 
     // Tells a party that no pair is open, but some is out.
@@ -152,19 +203,19 @@ impl<'p, L: Run> Board<'p, L> {
     }
 
     // Takes an answer's unit back: its room is free for the answer's entry.
-    pub(crate) fn settle(&mut self, offer: Offer<L>) -> (u32, Needed)
+    pub(crate) fn settle(&mut self, debt: Debt<L>) -> (u32, Needed)
         ensures state { self.new.state ≡ self.old.state }
         ensures entries { self.new.entries ≡ self.old.entries }
         ensures room { self.new.room ≡ self.old.room + 1 }
-        ensures party { (result.0 ≡ offer.party) × (result.0 < L.workers + 1) }
-        ensures pair { result.1 ≡ offer.pair }
+        ensures party { (result.0 ≡ debt.party) × (result.0 < L.workers + 1) }
+        ensures pair { result.1 ≡ debt.pair }
     {
-        let Offer {
+        let Debt {
             party,
             pair,
             mut unit,
             ..
-        } = offer;
+        } = debt;
         let Board { owed, waiting, .. } = self;
         owed.audit(&mut unit);
         owed.sub(&mut unit, 1);
@@ -224,6 +275,7 @@ impl<'p, L: Run> Board<'p, L> {
     {
         let Board {
             version,
+            current,
             marks,
             calls,
             offers,
@@ -238,6 +290,7 @@ impl<'p, L: Run> Board<'p, L> {
             note(calls, journal, party, Step::Already(bits));
             return Cut::Already;
         }
+        *current = None;
         *cursor = 0;
         open_all(marks);
         offers[party as usize] = None;
@@ -278,8 +331,8 @@ impl<'p, L: Run> Board<'p, L> {
         ensures room { 1 ≤ self.new.room }
     {
         if self.is_open_at(member) {
-            let offer = self.offer(party, member);
-            self.settle(offer);
+            let debt = self.lend(party, member);
+            self.settle(debt);
         }
     }
 }

@@ -2,6 +2,7 @@
 ghost use Rattle.std.specs.Prelude.{◌≡◌, ◌≤◌, ◌<◌, ◌+◌, ◌^◌, IfOk, IfSome};
 ghost use Rattle.refine_board.specs.Schedules.{opened};
 ghost use Rattle.refine_board.specs.Running.{IsAsked};
+ghost use Rattle.verdict_stamp.specs.Published.{IsStampOf};
 
 use crate::same::same_classes;
 use crate::{Board, Journal, Offer, Run, Step, Take, finish, replay};
@@ -10,9 +11,10 @@ use circ_model::Lit;
 use product_machine::{PairFault, Product};
 use std::alloc::{AllocError, Global};
 use std::marker::Brand;
+use std::sync::Wait;
 use std::sync::ledger::Blank;
 use std::test::Fail;
-use verdict_stamp::{Proof, Prover, Version, greatest_classes};
+use verdict_stamp::{Proof, Prover, Stamp, Version, Versions, greatest_classes};
 
 fn literal(number: u32) -> Lit {
     Lit::of(number / 2, number % 2 == 1)
@@ -78,42 +80,53 @@ fn pair_of(alloc: Global, left: u32, right: u32) -> Result<Product, PairFault> {
     }
 }
 
-// An offer, and the prover of the version that stood then.
+// An offer, and the prover of its version.
 #[derive(Drop)]
-struct Work<'p, L: Run> {
-    offer: Offer<L>,
-    prover: Prover<'p>,
+struct Work<'v, 'p, L: Run> {
+    offer: Offer<'p, L>,
+    stamp: Stamp<'p>,
+    prover: Prover<'v, 'p>,
     ghost asked: { IsAsked prover offer.pair },
+    ghost stamped: { IsStampOf L.list stamp prover },
 }
 
 // Asks for a pair.
-fn ask<'p, L: Run>(
+fn ask<'v, 'p, L: Run>(
+    rt: &impl Wait,
     alloc: Global,
-    board: &mut Board<'p, L>,
+    board: &mut Board<'v, 'p, L>,
     party: u32,
-) -> Result<Option<Work<'p, L>>, AllocError>
+) -> Result<Option<Work<'v, 'p, L>>, AllocError>
     requires party { party < L.workers + 1 }
 {
-    match board.take(party)? {
+    match board.take(rt, party)? {
         Take::Offer(offer) => {
-            let version = board.version().copy(alloc)?;
-            let prover = Prover::new(alloc, version)?;
-            Ok(Some(Work { offer, prover }))
+            let stamp = offer.stamp().copy();
+            let prover = Prover::new(alloc, board.versions().at(&stamp))?;
+            Ok(Some(Work {
+                offer,
+                stamp,
+                prover,
+            }))
         }
         _ => Ok(None),
     }
 }
 
 // Proves the pair, and hands the answer in.
-fn answer<'p, L: Run>(
+fn answer<'v, 'p, L: Run>(
     alloc: Global,
-    board: &mut Board<'p, L>,
-    work: Work<'p, L>,
+    board: &mut Board<'v, 'p, L>,
+    work: Work<'v, 'p, L>,
 ) -> Result<(), AllocError> {
-    let Work { offer, prover } = work;
+    let Work {
+        offer,
+        stamp,
+        prover,
+    } = work;
     match prover.prove(alloc, offer.pair())? {
         Proof::Holds(verdict) => {
-            board.keep(offer, &verdict);
+            board.keep(offer, &verdict, &stamp);
         }
         Proof::Splits(vector) => {
             board.split(offer, vector);
@@ -123,25 +136,26 @@ fn answer<'p, L: Run>(
 }
 
 // Asks, and keeps the work, if there is some.
-fn ask_turn<'p, L: Run>(
+fn ask_turn<'v, 'p, L: Run>(
+    rt: &impl Wait,
     alloc: Global,
-    board: &mut Board<'p, L>,
-    works: &mut Vec<Work<'p, L>>,
+    board: &mut Board<'v, 'p, L>,
+    works: &mut Vec<Work<'v, 'p, L>>,
     party: u32,
 ) -> Result<(), AllocError>
     requires party { party < L.workers + 1 }
 {
-    if let Some(work) = ask(alloc, board, party)? {
+    if let Some(work) = ask(rt, alloc, board, party)? {
         works.push(work)?;
     }
     Ok(())
 }
 
 // Answers the work at an index, if there is so much.
-fn answer_turn<'p, L: Run>(
+fn answer_turn<'v, 'p, L: Run>(
     alloc: Global,
-    board: &mut Board<'p, L>,
-    works: &mut Vec<Work<'p, L>>,
+    board: &mut Board<'v, 'p, L>,
+    works: &mut Vec<Work<'v, 'p, L>>,
     at: usize,
 ) -> Result<(), AllocError> {
     if at < works.len() {
@@ -153,26 +167,29 @@ fn answer_turn<'p, L: Run>(
 
 // Two workers: both ask, the first answers and then the second; the first asks, then the second, and the first answers; the
 // second asks.
-fn two_turns<'p, L: Run>(
+fn two_turns<'v, 'p, L: Run>(
+    rt: &impl Wait,
     alloc: Global,
-    board: &mut Board<'p, L>,
-    works: &mut Vec<Work<'p, L>>,
+    board: &mut Board<'v, 'p, L>,
+    works: &mut Vec<Work<'v, 'p, L>>,
 ) -> Result<(), AllocError>
     requires workers { 2 ≤ L.workers }
 {
-    ask_turn(alloc, board, works, 0)?;
-    ask_turn(alloc, board, works, 1)?;
+    ask_turn(rt, alloc, board, works, 0)?;
+    ask_turn(rt, alloc, board, works, 1)?;
     answer_turn(alloc, board, works, 0)?;
     answer_turn(alloc, board, works, 0)?;
-    ask_turn(alloc, board, works, 0)?;
-    ask_turn(alloc, board, works, 1)?;
+    ask_turn(rt, alloc, board, works, 0)?;
+    ask_turn(rt, alloc, board, works, 1)?;
     answer_turn(alloc, board, works, 0)?;
-    ask_turn(alloc, board, works, 1)
+    ask_turn(rt, alloc, board, works, 1)
 }
 
-fn two_workers<'p, L: Run>(
+fn two_workers<'v, 'p, L: Run>(
+    rt: &impl Wait,
     alloc: Global,
     blank: Blank,
+    versions: &'v Versions<'p>,
     first: Version<'p>,
     workers: u32,
 ) -> Result<(Version<'p>, Journal), AllocError>
@@ -181,13 +198,79 @@ fn two_workers<'p, L: Run>(
     requires run { (first.pair ≡ L.pair) × (first.k ≡ L.k) }
     requires workers { (workers ≡ L.workers) × (2 ≤ L.workers) }
     requires opening { L.opening ≡ opened L.pair L.workers first.classes first.number }
+    requires list { L.list ≡ versions.now }
 {
     let mut works = Vec::new(alloc);
-    let mut board = Board::<'p, L>::open(alloc, blank, first, workers)?;
-    let played = two_turns(alloc, &mut board, &mut works);
+    let mut board = Board::<'v, 'p, L>::open(alloc, blank, versions, first, workers)?;
+    let played = two_turns(rt, alloc, &mut board, &mut works);
     let end = board.close();
     played?;
     Ok(end)
+}
+
+// The index of a party's work, or 9 for none.
+fn index_of<L: Run>(works: &Vec<Work<'_, '_, L>>, party: u32) -> usize {
+    for work in works {
+        if work.offer.party() == party {
+            return work.stamp.index();
+        }
+    }
+    9
+}
+
+// Both ask, and answer; the first asks again. The indices of the three offers.
+fn three_indices<'v, 'p, L: Run>(
+    rt: &impl Wait,
+    alloc: Global,
+    board: &mut Board<'v, 'p, L>,
+    works: &mut Vec<Work<'v, 'p, L>>,
+) -> Result<[usize; 3], AllocError>
+    requires workers { 2 ≤ L.workers }
+{
+    ask_turn(rt, alloc, board, works, 0)?;
+    ask_turn(rt, alloc, board, works, 1)?;
+    let first = index_of(works, 0);
+    let second = index_of(works, 1);
+    answer_turn(alloc, board, works, 0)?;
+    answer_turn(alloc, board, works, 0)?;
+    ask_turn(rt, alloc, board, works, 0)?;
+    Ok([first, second, index_of(works, 0)])
+}
+
+fn indices_of_offers<'v, 'p, L: Run>(
+    rt: &impl Wait,
+    alloc: Global,
+    blank: Blank,
+    versions: &'v Versions<'p>,
+    first: Version<'p>,
+    workers: u32,
+) -> Result<[usize; 3], AllocError>
+    requires name { (blank.name ≡ L.name) × (blank.parts ≡ L.parts) }
+    requires parts { 2 ^ 62 ≤ L.parts }
+    requires run { (first.pair ≡ L.pair) × (first.k ≡ L.k) }
+    requires workers { (workers ≡ L.workers) × (2 ≤ L.workers) }
+    requires opening { L.opening ≡ opened L.pair L.workers first.classes first.number }
+    requires list { L.list ≡ versions.now }
+{
+    let mut works = Vec::new(alloc);
+    let mut board = Board::<'v, 'p, L>::open(alloc, blank, versions, first, workers)?;
+    three_indices(rt, alloc, &mut board, &mut works)
+}
+
+fn indices(rt: &impl Wait, alloc: Global, product: &Product) -> Result<[usize; 3], AllocError> {
+    let first = Version::first(alloc, product, 1)?;
+    let versions = Versions::new(alloc)?;
+    indices_of_offers::<Brand>(rt, alloc, Blank::new(1 << 62), &versions, first, 2)
+}
+
+#[test]
+fn offers_have_one_index_until_a_split(rt: HostRuntime) -> Result<(), Fail> {
+    let alloc = rt.alloc();
+    match pair_of(alloc, 1, 1) {
+        Ok(product) => assert_eq!(rt; indices(&rt, alloc, &product)?, [0, 0, 1]),
+        Err(_) => assert!(rt; false),
+    }
+    Ok(())
 }
 
 fn word_of(step: &Step) -> &'static str {
@@ -236,14 +319,23 @@ fn is_entry(
 }
 
 // What two workers make of a pair, from its first version.
-fn worked<'p>(alloc: Global, product: &'p Product) -> Result<(Version<'p>, Journal), AllocError> {
+fn worked<'p>(
+    rt: &impl Wait,
+    alloc: Global,
+    product: &'p Product,
+) -> Result<(Version<'p>, Journal), AllocError> {
     let first = Version::first(alloc, product, 1)?;
-    two_workers::<Brand>(alloc, Blank::new(1 << 62), first, 2)
+    let versions = Versions::new(alloc)?;
+    two_workers::<Brand>(rt, alloc, Blank::new(1 << 62), &versions, first, 2)
 }
 
 // Whether the workers split and count the pair of toggles.
-fn toggles_are_counted(alloc: Global, product: &Product) -> Result<bool, AllocError> {
-    let (version, journal) = worked(alloc, product)?;
+fn toggles_are_counted(
+    rt: &impl Wait,
+    alloc: Global,
+    product: &Product,
+) -> Result<bool, AllocError> {
+    let (version, journal) = worked(rt, alloc, product)?;
     Ok(
         version.classes().count() == 2
             && journal.len() == 8
@@ -262,15 +354,15 @@ fn toggles_are_counted(alloc: Global, product: &Product) -> Result<bool, AllocEr
 fn two_workers_split_and_count_a_pair_of_toggles(rt: HostRuntime) -> Result<(), Fail> {
     let alloc = rt.alloc();
     match pair_of(alloc, 1, 1) {
-        Ok(product) => assert!(rt; toggles_are_counted(alloc, &product)?),
+        Ok(product) => assert!(rt; toggles_are_counted(&rt, alloc, &product)?),
         Err(_) => assert!(rt; false),
     }
     Ok(())
 }
 
 // Whether the second worker's proof is outdated, and its pair splits under the next version.
-fn proof_is_outdated(alloc: Global, product: &Product) -> Result<bool, AllocError> {
-    let (_, journal) = worked(alloc, product)?;
+fn proof_is_outdated(rt: &impl Wait, alloc: Global, product: &Product) -> Result<bool, AllocError> {
+    let (_, journal) = worked(rt, alloc, product)?;
     Ok(
         is_entry(&journal, 0, 0, 0, "offered", [0, 1])
             && is_entry(&journal, 1, 1, 0, "offered", [0, 2])
@@ -286,15 +378,15 @@ fn proof_is_outdated(alloc: Global, product: &Product) -> Result<bool, AllocErro
 fn an_outdated_proof_is_stale_and_its_pair_splits(rt: HostRuntime) -> Result<(), Fail> {
     let alloc = rt.alloc();
     match pair_of(alloc, 2, 3) {
-        Ok(product) => assert!(rt; proof_is_outdated(alloc, &product)?),
+        Ok(product) => assert!(rt; proof_is_outdated(&rt, alloc, &product)?),
         Err(_) => assert!(rt; false),
     }
     Ok(())
 }
 
 // Whether each worker is told at once that all is done.
-fn is_done_at_once(alloc: Global, product: &Product) -> Result<bool, AllocError> {
-    let (version, journal) = worked(alloc, product)?;
+fn is_done_at_once(rt: &impl Wait, alloc: Global, product: &Product) -> Result<bool, AllocError> {
+    let (version, journal) = worked(rt, alloc, product)?;
     Ok(version.classes().count() == 1 && is_entry(&journal, 0, 0, 0, "done", [0, 0]))
 }
 
@@ -302,14 +394,14 @@ fn is_done_at_once(alloc: Global, product: &Product) -> Result<bool, AllocError>
 fn a_pair_with_one_signal_is_done_at_once(rt: HostRuntime) -> Result<(), Fail> {
     let alloc = rt.alloc();
     match pair_of(alloc, 0, 0) {
-        Ok(product) => assert!(rt; is_done_at_once(alloc, &product)?),
+        Ok(product) => assert!(rt; is_done_at_once(&rt, alloc, &product)?),
         Err(_) => assert!(rt; false),
     }
     Ok(())
 }
 
 // A party of three without work.
-fn idle_party<L: Run>(works: &Vec<Work<'_, L>>) -> u32
+fn idle_party<L: Run>(works: &Vec<Work<'_, '_, L>>) -> u32
     ensures { result < 3 }
 {
     for party in 0..2u32 {
@@ -321,24 +413,25 @@ fn idle_party<L: Run>(works: &Vec<Work<'_, L>>) -> u32
 }
 
 // Whether the replay of the journal has the board's classes.
-fn is_replayed<L: Run>(alloc: Global, board: &Board<'_, L>) -> Result<bool, AllocError> {
+fn is_replayed<L: Run>(alloc: Global, board: &Board<'_, '_, L>) -> Result<bool, AllocError> {
     let classes = replay(alloc, board.opening(), 3, board.journal())?;
     Ok(same_classes(&classes, board.version().classes()))
 }
 
 // A turn: a party without work asks, or one with work answers. Answers whether the replay of the journal has the board's
 // classes then.
-fn drawn_turn<'p, L: Run>(
+fn drawn_turn<'v, 'p, L: Run>(
+    rt: &impl Wait,
     alloc: Global,
-    board: &mut Board<'p, L>,
-    works: &mut Vec<Work<'p, L>>,
+    board: &mut Board<'v, 'p, L>,
+    works: &mut Vec<Work<'v, 'p, L>>,
     draw: usize,
 ) -> Result<bool, AllocError>
     requires workers { 3 ≤ L.workers }
 {
     if works.len() < 3 && draw % 2 == 0 {
         let party = idle_party(works);
-        ask_turn(alloc, board, works, party)?;
+        ask_turn(rt, alloc, board, works, party)?;
     } else {
         answer_turn(alloc, board, works, draw / 2 % 3)?;
     }
@@ -347,10 +440,11 @@ fn drawn_turn<'p, L: Run>(
 
 // Turns of three workers, drawn from a seed; then their offers are given back, and a fourth party works alone. Answers
 // whether at each turn the replay of the journal had the board's classes.
-fn drawn_turns<'p, L: Run>(
+fn drawn_turns<'v, 'p, L: Run>(
+    rt: &impl Wait,
     alloc: Global,
-    board: &mut Board<'p, L>,
-    works: &mut Vec<Work<'p, L>>,
+    board: &mut Board<'v, 'p, L>,
+    works: &mut Vec<Work<'v, 'p, L>>,
     seed: u64,
 ) -> Result<bool, AllocError>
     requires workers { 3 ≤ L.workers }
@@ -361,7 +455,7 @@ fn drawn_turns<'p, L: Run>(
         state = state
             .wrapping_mul(6364136223846793005)
             .wrapping_add(1442695040888963407);
-        if !drawn_turn(alloc, board, works, (state >> 33) as usize)? {
+        if !drawn_turn(rt, alloc, board, works, (state >> 33) as usize)? {
             same = false;
         }
     }
@@ -374,9 +468,11 @@ fn drawn_turns<'p, L: Run>(
     Ok(same)
 }
 
-fn drawn_end<'p, L: Run>(
+fn drawn_end<'v, 'p, L: Run>(
+    rt: &impl Wait,
     alloc: Global,
     blank: Blank,
+    versions: &'v Versions<'p>,
     first: Version<'p>,
     workers: u32,
     seed: u64,
@@ -386,27 +482,42 @@ fn drawn_end<'p, L: Run>(
     requires run { (first.pair ≡ L.pair) × (first.k ≡ L.k) }
     requires workers { (workers ≡ L.workers) × (3 ≤ L.workers) }
     requires opening { L.opening ≡ opened L.pair L.workers first.classes first.number }
+    requires list { L.list ≡ versions.now }
 {
     let mut works = Vec::new(alloc);
-    let mut board = Board::<'p, L>::open(alloc, blank, first, workers)?;
-    let played = drawn_turns(alloc, &mut board, &mut works, seed);
+    let mut board = Board::<'v, 'p, L>::open(alloc, blank, versions, first, workers)?;
+    let played = drawn_turns(rt, alloc, &mut board, &mut works, seed);
     let (version, _) = board.close();
     let same = played?;
     Ok((version, same))
 }
 
 // Whether a drawn schedule of a pair ends at its greatest classes.
-fn ends_at_greatest(alloc: Global, product: &Product, seed: u64) -> Result<bool, AllocError> {
+fn ends_at_greatest(
+    rt: &impl Wait,
+    alloc: Global,
+    product: &Product,
+    seed: u64,
+) -> Result<bool, AllocError> {
     let greatest = greatest_classes(alloc, product, 1)?;
     let first = Version::first(alloc, product, 1)?;
-    let (version, same) = drawn_end::<Brand>(alloc, Blank::new(1 << 62), first, 3, seed)?;
+    let versions = Versions::new(alloc)?;
+    let (version, same) = drawn_end::<Brand>(
+        rt,
+        alloc,
+        Blank::new(1 << 62),
+        &versions,
+        first,
+        3,
+        seed,
+    )?;
     Ok(same && same_classes(version.classes(), greatest.classes()))
 }
 
 // The same for four seeds.
-fn end_at_greatest(alloc: Global, product: &Product) -> Result<bool, AllocError> {
+fn end_at_greatest(rt: &impl Wait, alloc: Global, product: &Product) -> Result<bool, AllocError> {
     for seed in 0..4u64 {
-        if !ends_at_greatest(alloc, product, seed)? {
+        if !ends_at_greatest(rt, alloc, product, seed)? {
             return Ok(false);
         }
     }
@@ -418,7 +529,7 @@ fn every_drawn_schedule_ends_at_the_greatest_classes(rt: HostRuntime) -> Result<
     let alloc = rt.alloc();
     for (left, right) in [(1, 1), (2, 3), (2, 2), (0, 0)] {
         match pair_of(alloc, left, right) {
-            Ok(product) => assert!(rt; end_at_greatest(alloc, &product)?),
+            Ok(product) => assert!(rt; end_at_greatest(&rt, alloc, &product)?),
             Err(_) => assert!(rt; false),
         }
     }

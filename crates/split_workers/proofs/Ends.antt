@@ -1,8 +1,7 @@
 -- Sums over parties, and what an entry adds to the ends and answers of a journal.
-use Rattle.std.proofs.Common.{◌≡◌, ◌∙◌, ◌<◌, ◌≤◌, ℕ, zero, suc, ◌+◌, ◌-◌, ◌*◌, ◌^◌, ◌==◌, ◌&&◌, Bool, true, false, cond, List, [], ◌∷◌, ◌++◌, refl, ap, sym, subst, arith, ⊎_elim, pow-suc, mul_comm, add-mul, lt_of_mul-lt-mul_right, ne_eqb, eq-eqb}
+use Rattle.std.proofs.Common.{◌≡◌, ◌∙◌, ◌<◌, ◌≤◌, ℕ, zero, suc, ◌+◌, ◌-◌, ◌*◌, ◌^◌, ◌==◌, ◌&&◌, true, false, cond, List, [], ◌∷◌, ◌++◌, refl, ap, sym, subst, arith, ⊎_elim, pow-suc, mul_comm, add-mul, lt_of_mul-lt-mul_right, ne_eqb, eq-eqb}
 use Rattle.std.proofs.lemmas.Bool.{cases_eq}
 use Rattle.std.proofs.lemmas.List.Sums.{sum_by_push}
-use Rattle.refine_board.specs.declared.journal.Step.{Step}
 use Rattle.refine_board.specs.declared.journal.Entry.{Entry}
 use Rattle.refine_board.specs.Tallies.{is_offered, offered_entries}
 use Rattle.split_workers.specs.Tallies.{is_done, dones, sum_below, ends, weights, is_answer, answers}

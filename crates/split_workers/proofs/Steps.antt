@@ -1,6 +1,5 @@
 -- What each call of the board does to what is true of a desk.
 use Rattle.std.proofs.Common.{arith, refl, sym, ap, subst, ◌≡◌, ◌∙◌, ◌<◌, ◌≤◌, ◌+◌, ◌*◌, ◌^◌, ◌++◌, ◌∷◌, [], ℕ, List, Bool, true, false, cond}
-use Rattle.std.specs.List.{All}
 use Rattle.std.proofs.lemmas.List.Elements.{All-push}
 use Rattle.circ_model.specs.Meaning.{Pair, places_of}
 use Rattle.class_partition.specs.declared.classes.Needed.{Needed}
@@ -19,7 +18,7 @@ use Rattle.refine_board.specs.States.{State}
 use Rattle.refine_board.specs.Schedules.{Leads}
 use Rattle.refine_board.specs.Running.{Running, Appends, IsUnder, next_entry}
 use Rattle.refine_board.proofs.Splits.{makes}
-use Rattle.split_workers.specs.Tallies.{is_done, is_answer, ends, weights, answers, dones}
+use Rattle.split_workers.specs.Tallies.{is_done, is_answer, ends, weights, dones}
 use Rattle.split_workers.specs.Seats.{Totals, no_totals}
 use Rattle.split_workers.specs.Desks.{held, IsLawful, AreLawful, IsDesk, IsOutcome}
 use Rattle.split_workers.proofs.Ends.{least_ends, all_ones, sum_none, same_ends, same_weights, more_ends, more_weights, answers_push, offered_push}

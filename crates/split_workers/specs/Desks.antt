@@ -1,8 +1,7 @@
 -- What is true of a run whenever its lock is free, and of its end.
-use Rattle.std.specs.Prelude.{◌≡◌, ◌⊎◌, ℕ, ◌+◌, ◌*◌, ◌<◌, ◌≤◌, List, Bool, true, false}
+use Rattle.std.specs.Prelude.{◌≡◌, ℕ, ◌+◌, ◌*◌, ◌<◌, ◌≤◌, List, Bool, true, false}
 use Rattle.std.specs.List.{All}
 use Rattle.circ_model.specs.Meaning.{Pair}
-use Rattle.class_partition.specs.declared.classes.Needed.{Needed}
 use Rattle.class_partition.specs.Classes.{AreOfGreatest}
 use Rattle.verdict_stamp.specs.Versions.{Standing}
 use Rattle.refine_board.specs.declared.journal.Step.{Step}
@@ -11,11 +10,11 @@ use Rattle.refine_board.specs.declared.journal.Entry.{Entry}
 use Rattle.refine_board.specs.States.{State}
 use Rattle.refine_board.specs.Schedules.{Leads}
 use Rattle.refine_board.specs.Tallies.{offered_entries}
-use Rattle.refine_board.specs.Running.{Running, Owed, Appends, IsAsked}
+use Rattle.refine_board.specs.Running.{Running}
 use Rattle.split_workers.specs.Tallies.{dones, ends, weights, answers}
 use Rattle.split_workers.specs.Seats.{Seated, Totals}
 use Rattle.split_workers.specs.declared.desk.Asked.{Asked}
-use Rattle.split_workers.specs.declared.desk.Asked.TheVariants.{Work, Anew, Idle, Moved, Ended, Stopped}
+use Rattle.split_workers.specs.declared.desk.Asked.TheVariants.{Work, Idle, Moved, Ended, Stopped}
 
 -- the board of a run, and whether memory ran out
 pub record Held : Type 0 where
@@ -53,21 +52,13 @@ pub record IsDesk (pair : Pair) (k workers : ℕ) (h : Held) (t : Totals) (end_p
   pub end_parts_are : end_parts ≡ workers
   pub owed_parts_are : owed_parts ≡ workers * 2
 
--- an offer stays out, or goes back to the board, which stops
-abbrev pub IsHandedOut : ℕ → Owed → Held → Totals → Held → Totals → Type 0
-IsHandedOut places o before t after t' =
-    ((after ≡ before) × (t' ≡ record t { owed = t.owed + 1 }))
-    ⊎ (Appends places before.board after.board o.party (step.Back o.pair) × (after.stopped ≡ true) × (t' ≡ t))
-
--- the pair is one of the version that the worker has or gets, and the worker owes its answer
-abbrev pub IsAskedOf : {L : Type 0} → Standing → Seated → Seated → Asked L → Type 0
-IsAskedOf mine before after (Work offer) = IsAsked mine offer.pair × (offer.party ≡ before.party) × (after ≡ record before { owed = before.owed + 1 })
-IsAskedOf mine before after (Anew offer version) =
-    (version.pair ≡ mine.pair) × (version.k ≡ mine.k) × IsAsked version offer.pair × (offer.party ≡ before.party) × (after ≡ record before { owed = before.owed + 1 })
-IsAskedOf mine before after Idle = after ≡ before
-IsAskedOf mine before after Moved = after ≡ before
-IsAskedOf mine before after Ended = after ≡ record before { ended = 1 }
-IsAskedOf mine before after Stopped = after.party ≡ before.party
+-- a worker that is given a pair owes its answer
+abbrev pub IsAskedOf : {L : Type 0} → Seated → Seated → Asked L → Type 0
+IsAskedOf before after (Work offer) = (offer.party ≡ before.party) × (after ≡ record before { owed = before.owed + 1 })
+IsAskedOf before after Idle = after ≡ before
+IsAskedOf before after Moved = after ≡ before
+IsAskedOf before after Ended = after ≡ record before { ended = 1 }
+IsAskedOf before after Stopped = after.party ≡ before.party
 
 -- how a run ends: with the classes of the greatest correspondence, and a legal journal that leads to them from the opening; each worker was told once
 -- that each pair is counted, and each offer was answered

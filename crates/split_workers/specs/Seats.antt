@@ -1,5 +1,5 @@
 -- A worker's seat at the desk, and what the ledgers of a run tell of all seats.
-use Rattle.std.specs.Prelude.{◌≡◌, ℕ, ◌+◌, ◌-◌, ◌*◌, ◌^◌, ◌<◌, ◌≤◌, List, length, slice_index_or, Option, Some, None, IfSome}
+use Rattle.std.specs.Prelude.{◌≡◌, ℕ, ◌+◌, ◌-◌, ◌*◌, ◌^◌, ◌<◌, ◌≤◌, List, length, slice_index_or, Option, None, IfSome}
 use Rattle.std.specs.List.{All}
 use Rattle.refine_board.specs.Running.{Owed}
 

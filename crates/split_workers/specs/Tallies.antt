@@ -3,7 +3,6 @@ use Rattle.std.specs.Prelude.{ℕ, zero, suc, ◌+◌, ◌*◌, ◌^◌, ◌==�
 use Rattle.refine_board.specs.declared.journal.Step.{Step}
 use Rattle.refine_board.specs.declared.journal.Step.TheVariants.{Offered, Idle, Done, Counted, Stale, Split, Already, Foreign, Back}
 use Rattle.refine_board.specs.declared.journal.Entry.{Entry}
-use Rattle.refine_board.specs.Tallies.{is_offered, offered_entries}
 
 abbrev pub is_done : Step → Bool
 is_done Done = true

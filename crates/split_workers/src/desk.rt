@@ -1,26 +1,27 @@
 //! What lies under the lock of a run: its board, what the ends of its workers say of it, and whether memory ran out.
 ghost use Rattle.std.specs.Prelude.{◌≡◌, ◌<◌, ◌≤◌, ◌+◌, ◌*◌, ◌^◌, [], true, length, IfSome};
+ghost use Rattle.boxcar.specs.Table.{Shows};
 ghost use Rattle.circ_model.specs.Meaning.{places_of};
 ghost use Rattle.class_partition.specs.Classes.{AreOfGreatest};
-ghost use Rattle.refine_board.specs.States.{AllCounted, IsNeededPair};
+ghost use Rattle.refine_board.specs.States.{AllCounted};
 ghost use Rattle.refine_board.specs.Running.{IsAbout, IsOf};
+ghost use Rattle.verdict_stamp.specs.Published.{IsStampOf};
 ghost use Rattle.split_workers.specs.Seats.{HaveEnded, OwesLess, no_totals};
-ghost use Rattle.split_workers.specs.Desks.{IsAskedOf, IsHandedOut, IsOutcome, held};
+ghost use Rattle.split_workers.specs.Desks.{IsAskedOf, IsOutcome, held};
 
+use crate::bench::Bench;
 use crate::seat::{Ledgers, Seat};
 use refine_board::{Board, Journal, Offer, Run, Take};
-use std::alloc::{AllocError, Global};
 use std::marker::Model;
+use std::sync::Wait;
 use std::sync::ledger::Ledger;
-use verdict_stamp::{Vector, Verdict, Version};
+use verdict_stamp::{Stamp, Vector, Verdict, Version};
 
 /// What a worker is answered that asks for work.
 #[derive(Drop)]
 pub(crate) enum Asked<'p, L: Run> {
-    /// A pair of the version that it has.
-    Work(Offer<L>),
-    /// A pair of this version.
-    Anew(Offer<L>, Version<'p>),
+    /// A pair.
+    Work(Offer<'p, L>),
     /// No pair is open now.
     Idle,
     /// The board has another version, and the worker still holds offers.
@@ -33,13 +34,13 @@ pub(crate) enum Asked<'p, L: Run> {
 
 /// The locked value.
 #[derive(Drop)]
-pub(crate) struct Desk<'p, L: Run, E: Ledger, O: Ledger> {
-    board: Board<'p, L>,
+pub(crate) struct Desk<'v, 'p, L: Run, E: Ledger, O: Ledger> {
+    board: Board<'v, 'p, L>,
     ledgers: Ledgers<E, O>,
     stopped: bool,
 }
 
-impl<'p, L: Run, E: Ledger, O: Ledger> Model for Desk<'p, L, E, O> {
+impl<'v, 'p, L: Run, E: Ledger, O: Ledger> Model for Desk<'v, 'p, L, E, O> {
     ghost use Rattle.split_workers.specs.Desks.{IsDesk, Held, held};
 
     ghost Value = { Held };
@@ -49,43 +50,19 @@ impl<'p, L: Run, E: Ledger, O: Ledger> Model for Desk<'p, L, E, O> {
     ghost invariant = { λ d. IsDesk L.pair L.k L.workers (held d.board d.stopped) d.ledgers E.parts O.parts };
 }
 
-// Hands out an offer: with the version of the board where the worker has another.
-fn hand_out<'p, L: Run, E: Ledger, O: Ledger>(
-    board: &mut Board<'p, L>,
-    ledgers: &mut Ledgers<E, O>,
-    stopped: &mut bool,
-    alloc: Global,
-    seat: &mut Seat<E, O>,
-    offer: Offer<L>,
-    mine: &Version<'p>,
-) -> Asked<'p, L>
-    requires needed { IsNeededPair (places_of L.pair) board.old.state.classes offer.pair }
-    requires product { mine.now.pair ≡ L.pair }
-    requires k { mine.now.k ≡ L.k }
-    requires party { offer.party ≡ seat.old.party }
-    ensures asked { IsAskedOf mine.now seat.old seat.new result }
-    ensures goes { IsHandedOut (places_of L.pair) offer (held board.old stopped.old) ledgers.old (held board.new stopped.new) ledgers.new }
+// Whether the board's version is the one of a worker's bench.
+fn stands_at<'v, 'p, L: Run>(board: &Board<'v, 'p, L>, bench: &Option<Bench<'v, 'p>>) -> bool
+    requires { IfSome bench.now (λ b. Shows L.list b) }
 {
-    if board.is_at(mine) {
-        ledgers.owe(seat);
-        return Asked::Work(offer);
-    }
-    match board.version().copy(alloc) {
-        Ok(version) => {
-            ledgers.owe(seat);
-            Asked::Anew(offer, version)
-        }
-        Err(_) => {
-            *stopped = true;
-            board.back(offer);
-            Asked::Stopped
-        }
+    match bench {
+        Some(bench) => board.is_stamped(bench.stamp()),
+        None => false,
     }
 }
 
 // A worker's end, where each pair is counted.
 fn end<L: Run, E: Ledger, O: Ledger>(
-    board: &Board<'_, L>,
+    board: &Board<'_, '_, L>,
     ledgers: &mut Ledgers<E, O>,
     seat: &mut Seat<E, O>,
 )
@@ -102,9 +79,9 @@ fn end<L: Run, E: Ledger, O: Ledger>(
     ledgers.end(seat);
 }
 
-impl<'p, L: Run, E: Ledger, O: Ledger> Desk<'p, L, E, O> {
+impl<'v, 'p, L: Run, E: Ledger, O: Ledger> Desk<'v, 'p, L, E, O> {
     /// A desk on which a run begins.
-    pub(crate) fn new(board: Board<'p, L>, ledgers: Ledgers<E, O>) -> Desk<'p, L, E, O>
+    pub(crate) fn new(board: Board<'v, 'p, L>, ledgers: Ledgers<E, O>) -> Desk<'v, 'p, L, E, O>
         requires workers { (0 < L.workers) × (L.workers ≤ 64) }
         requires ends { E.parts ≡ L.workers }
         requires owed { O.parts ≡ L.workers * 2 }
@@ -118,19 +95,18 @@ impl<'p, L: Run, E: Ledger, O: Ledger> Desk<'p, L, E, O> {
         }
     }
 
-    /// Asks for work, with the version that the worker has, and whether it holds offers.
+    /// Asks for work, with the worker's bench, and whether it holds offers.
     pub(crate) fn ask(
         &mut self,
-        alloc: Global,
+        rt: &impl Wait,
         seat: &mut Seat<E, O>,
-        mine: &Version<'p>,
+        bench: &Option<Bench<'v, 'p>>,
         holding: bool,
     ) -> Asked<'p, L>
         requires party { seat.old.party < L.workers }
         requires working { seat.old.ended ≡ 0 }
-        requires product { mine.now.pair ≡ L.pair }
-        requires k { mine.now.k ≡ L.k }
-        ensures { IsAskedOf mine.now seat.old seat.new result }
+        requires bench { IfSome bench.now (λ b. Shows L.list b) }
+        ensures { IsAskedOf seat.old seat.new result }
     {
         let Desk {
             board,
@@ -140,11 +116,14 @@ impl<'p, L: Run, E: Ledger, O: Ledger> Desk<'p, L, E, O> {
         if *stopped {
             return Asked::Stopped;
         }
-        if holding && !board.is_at(mine) {
+        if holding && !stands_at(board, bench) {
             return Asked::Moved;
         }
-        match board.take(seat.party()) {
-            Ok(Take::Offer(offer)) => hand_out(board, ledgers, stopped, alloc, seat, offer, mine),
+        match board.take(rt, seat.party()) {
+            Ok(Take::Offer(offer)) => {
+                ledgers.owe(seat);
+                Asked::Work(offer)
+            }
             Ok(Take::Idle) => Asked::Idle,
             Ok(Take::Done) => {
                 end(board, ledgers, seat);
@@ -157,19 +136,26 @@ impl<'p, L: Run, E: Ledger, O: Ledger> Desk<'p, L, E, O> {
         }
     }
 
-    /// Answers an offer by a verdict.
-    pub(crate) fn keep(&mut self, seat: &mut Seat<E, O>, offer: Offer<L>, verdict: &Verdict<'_, '_>)
+    /// Answers an offer by a verdict, with the stamp of its version.
+    pub(crate) fn keep(
+        &mut self,
+        seat: &mut Seat<E, O>,
+        offer: Offer<'p, L>,
+        verdict: &Verdict<'_, '_>,
+        stamp: &Stamp<'p>,
+    )
         requires party { (offer.party ≡ seat.old.party) × (seat.old.party < L.workers) }
         requires owed { 0 < seat.old.owed }
         requires about { IsAbout verdict.now offer.pair }
+        requires stamp { IsStampOf L.list stamp.now verdict.now.version }
         ensures { OwesLess seat.old seat.new }
     {
-        self.board.keep(offer, verdict);
+        self.board.keep(offer, verdict, stamp);
         self.ledgers.pay(seat);
     }
 
     /// Answers an offer by a vector.
-    pub(crate) fn split(&mut self, seat: &mut Seat<E, O>, offer: Offer<L>, vector: Vector<'_>)
+    pub(crate) fn split(&mut self, seat: &mut Seat<E, O>, offer: Offer<'p, L>, vector: Vector<'_>)
         requires party { (offer.party ≡ seat.old.party) × (seat.old.party < L.workers) }
         requires owed { 0 < seat.old.owed }
         requires own { IsOf L.pair L.k vector }
@@ -180,20 +166,13 @@ impl<'p, L: Run, E: Ledger, O: Ledger> Desk<'p, L, E, O> {
     }
 
     /// Gives an offer back for want of memory, and stops the run.
-    pub(crate) fn give_back(&mut self, seat: &mut Seat<E, O>, offer: Offer<L>)
+    pub(crate) fn give_back(&mut self, seat: &mut Seat<E, O>, offer: Offer<'p, L>)
         requires party { (offer.party ≡ seat.old.party) × (seat.old.party < L.workers) }
         requires owed { 0 < seat.old.owed }
     {
         self.stopped = true;
         self.board.back(offer);
         self.ledgers.pay(seat);
-    }
-
-    /// Stops the run for want of memory.
-    pub(crate) fn stop(&mut self)
-        ensures { self.new ≡ held self.old.board true }
-    {
-        self.stopped = true;
     }
 
     /// The classes and the journal at the end of a run, where each worker's seat is back; none where memory ran out.

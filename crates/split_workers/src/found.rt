@@ -6,7 +6,7 @@ use verdict_stamp::Vector;
 /// An offer, and a vector that separates its pair.
 #[derive(Drop)]
 pub(crate) struct Found<'p, L: Run> {
-    pub(crate) offer: Offer<L>,
+    pub(crate) offer: Offer<'p, L>,
     pub(crate) vector: Vector<'p>,
 }
 

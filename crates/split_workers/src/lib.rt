@@ -2,6 +2,7 @@
 //! its own, and answers. Whatever their schedule, they end at the classes of the greatest correspondence.
 #![tactic(auto)]
 
+mod bench;
 mod desk;
 mod found;
 mod report;

@@ -19,7 +19,7 @@ use std::sync::Wait;
 use std::sync::ledger::{Blank, Ledger};
 use std::thread;
 use std::thread::Threads;
-use verdict_stamp::Version;
+use verdict_stamp::{Version, Versions};
 
 /// What a run comes to.
 #[derive(Drop)]
@@ -46,6 +46,7 @@ fn refine_named<
     blank: Blank,
     ends: Blank,
     owed: Blank,
+    versions: &Versions<'p>,
     first: Version<'p>,
     workers: u32,
     gate: &G,
@@ -61,23 +62,23 @@ fn refine_named<
     requires workers { workers ≡ L.workers }
     requires some { (0 < workers) × (workers ≤ 64) }
     requires opening { L.opening ≡ opened L.pair L.workers first.classes first.number }
+    requires list { L.list ≡ versions.now }
     ensures outcome { IfOk result (λ r. IsOutcome L.pair L.k L.workers L.opening r.version r.journal.entries) }
     ensures reports { IfOk result (λ r. AreReports workers r.journal.entries r.reports.items) }
 {
-    let own = first.copy(alloc)?;
+    let places = first.classes().len();
     let (ledgers, seats) = seats::<E, O>(alloc, ends, owed, workers)?;
-    let room = Room::<L, E, O>::new(Desk::new(Board::open(alloc, blank, first, workers)?, ledgers));
+    let board = Board::open(alloc, blank, versions, first, workers)?;
+    let room = Room::<L, E, O>::new(Desk::new(board, ledgers), versions);
     let shared = &room;
-    let opening = &own;
     let told = thread::map_vec(
         rt,
         seats,
         &|seat: Seat<E, O>| -> Option<Seat<E, O>>
             requires party { seat.party < L.workers }
             requires fresh { (seat.ended ≡ 0) × (seat.owed ≡ 0) }
-            requires opening { (opening.now.pair ≡ L.pair) × (opening.now.k ≡ L.k) }
             ensures { IfSome result (HasEnded seat.party) }
-        { work(rt, alloc, shared, gate, seat, opening) },
+        { work(rt, alloc, shared, gate, seat, places) },
     )?;
     let Some((version, journal)) = room.close(told) else {
         return Err(AllocError);
@@ -108,12 +109,14 @@ pub fn refine<'p, R: Threads + Wait + Sync, G: Gate>(
     ensures reports { IfOk result (λ r. AreReports workers r.journal.entries r.reports.items) }
 {
     let first = Version::opening(alloc, product, k)?;
+    let versions = Versions::new(alloc)?;
     refine_named::<Brand, Brand, Brand, R, G>(
         rt,
         alloc,
         Blank::new(1 << 62),
         Blank::new(workers as u64),
         Blank::new(workers as u64 * 2),
+        &versions,
         first,
         workers,
         gate,

@@ -1,32 +1,44 @@
 //! A worker: it asks for a pair, proves it outside the lock and answers, until each pair is counted or memory runs out.
 //! Pairs that it finds apart it answers together, since each split opens all pairs again.
 ghost use Rattle.std.specs.Prelude.{◌≡◌, ◌≢◌, ◌<◌, ◌+◌, [], IfOk, IfSome, length};
+ghost use Rattle.boxcar.specs.Table.{Shows};
 ghost use Rattle.refine_board.specs.Running.{IsAbout, IsAsked};
+ghost use Rattle.verdict_stamp.specs.Published.{IsStampOf};
 ghost use Rattle.split_workers.specs.Seats.{HasEnded, HaveEnded, OwesLess, AreHeld};
 ghost use Rattle.split_workers.specs.Desks.{IsAskedOf, IsOutcome};
 
+use crate::bench::{Bench, bench_of};
 use crate::desk::{Asked, Desk};
 use crate::found::Found;
 use crate::seat::Seat;
 use refine_board::{Journal, Offer, Run};
 use sec_base::Gate;
-use std::alloc::{AllocError, Global};
+use std::alloc::Global;
 use std::sync::ledger::Ledger;
 use std::sync::{Condvar, Mutex, Wait};
-use verdict_stamp::{Proof, Prover, Verdict, Version};
+use verdict_stamp::{Proof, Stamp, Verdict, Version, Versions};
 
-/// What the workers share: the locked desk, and the bell that wakes those who wait for work.
+/// What the workers share: the locked desk, the bell that wakes those who wait for work, and the published versions, which
+/// are read without the lock.
 #[derive(Drop)]
-pub(crate) struct Room<'p, L: Run, E: Ledger, O: Ledger> {
-    desk: Mutex<Desk<'p, L, E, O>>,
+pub(crate) struct Room<'v, 'p, L: Run, E: Ledger, O: Ledger> {
+    desk: Mutex<Desk<'v, 'p, L, E, O>>,
     bell: Condvar,
+    versions: &'v Versions<'p>,
+    ghost list: { versions.now ≡ L.list },
 }
 
-impl<'p, L: Run, E: Ledger, O: Ledger> Room<'p, L, E, O> {
-    pub(crate) fn new(desk: Desk<'p, L, E, O>) -> Room<'p, L, E, O> {
+impl<'v, 'p, L: Run, E: Ledger, O: Ledger> Room<'v, 'p, L, E, O> {
+    pub(crate) fn new(
+        desk: Desk<'v, 'p, L, E, O>,
+        versions: &'v Versions<'p>,
+    ) -> Room<'v, 'p, L, E, O>
+        requires list { versions.now ≡ L.list }
+    {
         Room {
             desk: Mutex::new(desk),
             bell: Condvar::new(),
+            versions,
         }
     }
 
@@ -44,23 +56,21 @@ impl<'p, L: Run, E: Ledger, O: Ledger> Room<'p, L, E, O> {
     fn ask<G: Gate>(
         &self,
         rt: &impl Wait,
-        alloc: Global,
         gate: &G,
         call: u64,
         seat: &mut Seat<E, O>,
-        mine: &Version<'p>,
+        bench: &Option<Bench<'v, 'p>>,
         holding: bool,
     ) -> Asked<'p, L>
         requires party { seat.old.party < L.workers }
         requires working { seat.old.ended ≡ 0 }
-        requires product { mine.now.pair ≡ L.pair }
-        requires k { mine.now.k ≡ L.k }
-        ensures { IsAskedOf mine.now seat.old seat.new result }
+        requires bench { IfSome bench.now (λ b. Shows L.list b) }
+        ensures { IsAskedOf seat.old seat.new result }
     {
         let party = seat.party();
         gate.hold(party, call);
         let mut guard = self.desk.lock(rt);
-        let asked = guard.ask(alloc, seat, mine, holding);
+        let asked = guard.ask(rt, seat, bench, holding);
         match asked {
             Asked::Idle => {
                 if !holding {
@@ -78,14 +88,8 @@ impl<'p, L: Run, E: Ledger, O: Ledger> Room<'p, L, E, O> {
         asked
     }
 
-    // Stops the run.
-    fn stop(&self, rt: &impl Wait) {
-        self.desk.lock(rt).stop();
-        self.bell.notify_all();
-    }
-
     // Gives an offer back, and stops the run.
-    fn give_back(&self, rt: &impl Wait, seat: &mut Seat<E, O>, offer: Offer<L>)
+    fn give_back(&self, rt: &impl Wait, seat: &mut Seat<E, O>, offer: Offer<'p, L>)
         requires party { (offer.party ≡ seat.old.party) × (seat.old.party < L.workers) }
         requires owed { 0 < seat.old.owed }
     {
@@ -100,17 +104,19 @@ impl<'p, L: Run, E: Ledger, O: Ledger> Room<'p, L, E, O> {
         gate: &G,
         call: u64,
         seat: &mut Seat<E, O>,
-        offer: Offer<L>,
+        offer: Offer<'p, L>,
         verdict: &Verdict<'_, '_>,
+        stamp: &Stamp<'p>,
     )
         requires party { (offer.party ≡ seat.old.party) × (seat.old.party < L.workers) }
         requires owed { 0 < seat.old.owed }
         requires about { IsAbout verdict.now offer.pair }
+        requires stamp { IsStampOf L.list stamp.now verdict.now.version }
         ensures { OwesLess seat.old seat.new }
     {
         let party = seat.party();
         gate.hold(party, call);
-        self.desk.lock(rt).keep(seat, offer, verdict);
+        self.desk.lock(rt).keep(seat, offer, verdict, stamp);
         self.bell.notify_all();
         gate.told(party, call);
     }
@@ -157,35 +163,36 @@ impl<'p, L: Run, E: Ledger, O: Ledger> Room<'p, L, E, O> {
         }
     }
 
-    // Proves an offered pair. Answers that it holds at once; a vector that separates it goes into the pocket.
-    fn prove<G: Gate>(
+    // Proves an offered pair at a bench of its version. Answers that it holds at once; a vector that separates it goes into
+    // the pocket.
+    fn prove_at<G: Gate>(
         &self,
         rt: &impl Wait,
         alloc: Global,
         gate: &G,
         party: u32,
         call: &mut u64,
-        prover: &Prover<'p>,
+        bench: &Bench<'v, 'p>,
         seat: &mut Seat<E, O>,
         pocket: &mut Vec<Found<'p, L>>,
-        offer: Offer<L>,
+        offer: Offer<'p, L>,
     ) -> Turn
         requires party { (offer.party ≡ party) × (party < L.workers) }
         requires seat { (seat.old.party ≡ party) × (seat.old.ended ≡ 0) × (seat.old.owed ≡ length pocket.old.items + 1) }
         requires held { AreHeld party pocket.old.items }
-        requires asked { IsAsked prover.now offer.pair }
-        requires product { prover.now.pair ≡ L.pair }
-        requires k { prover.now.k ≡ L.k }
+        requires listed { Shows L.list bench.now }
+        requires asked { IsAsked bench.now.value offer.pair }
+        requires product { bench.now.value.pair ≡ L.pair }
+        requires k { bench.now.value.k ≡ L.k }
         ensures going { result ≢ Turn.Ended }
         ensures seat { result ≡ Turn.On → (seat.new.party ≡ party) × (seat.new.ended ≡ 0) × (seat.new.owed ≡ length pocket.new.items) }
         ensures held { result ≡ Turn.On → AreHeld party pocket.new.items }
     {
-        gate.works(party, last_call(*call));
         if pocket.reserve(1).is_err() {
             self.give_back(rt, seat, offer);
             return Turn::Stopped;
         }
-        match prover.prove(alloc, offer.pair()) {
+        match bench.prover().prove(alloc, offer.pair()) {
             Ok(Proof::Holds(verdict)) => self.keep(
                 rt,
                 gate,
@@ -193,6 +200,7 @@ impl<'p, L: Run, E: Ledger, O: Ledger> Room<'p, L, E, O> {
                 seat,
                 offer,
                 &verdict,
+                bench.stamp(),
             ),
             Ok(Proof::Splits(vector)) => pocket.push_reserved(Found { offer, vector }),
             Err(_) => {
@@ -203,35 +211,34 @@ impl<'p, L: Run, E: Ledger, O: Ledger> Room<'p, L, E, O> {
         Turn::On
     }
 
-    // Proves an offered pair of another version.
-    fn prove_anew<G: Gate>(
+    // Proves an offered pair, under the offer's version.
+    fn prove<G: Gate>(
         &self,
         rt: &impl Wait,
         alloc: Global,
         gate: &G,
         party: u32,
         call: &mut u64,
-        prover: &mut Prover<'p>,
+        bench: &mut Option<Bench<'v, 'p>>,
         seat: &mut Seat<E, O>,
         pocket: &mut Vec<Found<'p, L>>,
-        offer: Offer<L>,
-        version: Version<'p>,
+        offer: Offer<'p, L>,
     ) -> Turn
         requires party { (offer.party ≡ party) × (party < L.workers) }
         requires seat { (seat.old.party ≡ party) × (seat.old.ended ≡ 0) × (seat.old.owed ≡ length pocket.old.items + 1) }
         requires held { AreHeld party pocket.old.items }
-        requires asked { IsAsked version offer.pair }
-        requires product { version.pair ≡ L.pair }
-        requires k { version.k ≡ L.k }
+        requires bench { IfSome bench.old (λ b. Shows L.list b) }
         ensures going { result ≢ Turn.Ended }
-        ensures prover { result ≡ Turn.On → prover.new ≡ version.entry }
         ensures seat { result ≡ Turn.On → (seat.new.party ≡ party) × (seat.new.ended ≡ 0) × (seat.new.owed ≡ length pocket.new.items) }
         ensures held { result ≡ Turn.On → AreHeld party pocket.new.items }
+        ensures bench { IfSome bench.new (λ b. Shows L.list b) }
     {
-        match Prover::new(alloc, version) {
-            Ok(anew) => {
-                *prover = anew;
-                self.prove(rt, alloc, gate, party, call, prover, seat, pocket, offer)
+        gate.works(party, last_call(*call));
+        match bench_of(alloc, self.versions, bench.take(), offer.stamp()) {
+            Ok(at) => {
+                let turn = self.prove_at(rt, alloc, gate, party, call, &at, seat, pocket, offer);
+                *bench = Some(at);
+                turn
             }
             Err(_) => {
                 self.give_back(rt, seat, offer);
@@ -249,30 +256,24 @@ impl<'p, L: Run, E: Ledger, O: Ledger> Room<'p, L, E, O> {
         gate: &G,
         party: u32,
         call: &mut u64,
-        prover: &mut Prover<'p>,
+        bench: &mut Option<Bench<'v, 'p>>,
         seat: &mut Seat<E, O>,
         pocket: &mut Vec<Found<'p, L>>,
     ) -> Turn
         requires party { party < L.workers }
         requires seat { (seat.old.party ≡ party) × (seat.old.ended ≡ 0) × (seat.old.owed ≡ length pocket.old.items) }
         requires held { AreHeld party pocket.old.items }
-        requires product { prover.old.pair ≡ L.pair }
-        requires k { prover.old.k ≡ L.k }
-        ensures prover { result ≡ Turn.On → (prover.new.pair ≡ L.pair) × (prover.new.k ≡ L.k) }
+        requires bench { IfSome bench.old (λ b. Shows L.list b) }
+        ensures bench { IfSome bench.new (λ b. Shows L.list b) }
         ensures seat { result ≡ Turn.On → (seat.new.party ≡ party) × (seat.new.ended ≡ 0) × (seat.new.owed ≡ length pocket.new.items) }
         ensures held { result ≡ Turn.On → AreHeld party pocket.new.items }
         ensures ended { result ≡ Turn.Ended → HasEnded party seat.new }
     {
         let number = next_call(call);
         let holding = pocket.len() > 0;
-        match self.ask(rt, alloc, gate, number, seat, prover.version(), holding) {
+        match self.ask(rt, gate, number, seat, bench, holding) {
             Asked::Work(offer) => {
-                self.prove(rt, alloc, gate, party, call, prover, seat, pocket, offer)
-            }
-            Asked::Anew(offer, version) => {
-                self.prove_anew(
-                    rt, alloc, gate, party, call, prover, seat, pocket, offer, version,
-                )
+                self.prove(rt, alloc, gate, party, call, bench, seat, pocket, offer)
             }
             Asked::Idle | Asked::Moved => {
                 self.hand_in(rt, gate, party, call, seat, pocket);
@@ -315,35 +316,23 @@ fn is_full<T>(pocket: &Vec<T>, places: u32) -> bool {
     pocket.len() as u64 > (1 << 31) / (places as u64 + 1)
 }
 
-// The prover of a version.
-fn prover_of<'p>(alloc: Global, version: &Version<'p>) -> Result<Prover<'p>, AllocError>
-    ensures { IfOk result (λ p. p ≡ version.now) }
-{
-    Prover::new(alloc, version.copy(alloc)?)
-}
-
 /// Works until the end, and gives the seat back where the worker was told that each pair is counted; nothing where memory
 /// ran out.
-pub(crate) fn work<'p, L: Run, E: Ledger, O: Ledger, G: Gate>(
+pub(crate) fn work<'v, 'p, L: Run, E: Ledger, O: Ledger, G: Gate>(
     rt: &impl Wait,
     alloc: Global,
-    room: &Room<'p, L, E, O>,
+    room: &Room<'v, 'p, L, E, O>,
     gate: &G,
     seat: Seat<E, O>,
-    first: &Version<'p>,
+    places: u32,
 ) -> Option<Seat<E, O>>
     requires party { seat.party < L.workers }
     requires fresh { (seat.ended ≡ 0) × (seat.owed ≡ 0) }
-    requires product { first.now.pair ≡ L.pair }
-    requires k { first.now.k ≡ L.k }
     ensures { IfSome result (HasEnded seat.party) }
 {
-    let Ok(mut prover) = prover_of(alloc, first) else {
-        room.stop(rt);
-        return None;
-    };
     let party = seat.party();
     let mut seat = seat;
+    let mut bench = None;
     let mut pocket = Vec::new(alloc);
     let mut call: u64 = 0;
     for _turn in rt.forever() {
@@ -353,7 +342,7 @@ pub(crate) fn work<'p, L: Run, E: Ledger, O: Ledger, G: Gate>(
             gate,
             party,
             &mut call,
-            &mut prover,
+            &mut bench,
             &mut seat,
             &mut pocket,
         ) {
@@ -361,7 +350,7 @@ pub(crate) fn work<'p, L: Run, E: Ledger, O: Ledger, G: Gate>(
             Turn::Ended => return Some(seat),
             Turn::Stopped => return None,
         }
-        if is_full(&pocket, first.classes().len()) {
+        if is_full(&pocket, places) {
             room.hand_in(rt, gate, party, &mut call, &mut seat, &mut pocket);
         }
     }

@@ -1,3 +1,4 @@
 pub mod Versions
+pub mod Published
 pub mod Proofs
 pub mod Opening

@@ -11,9 +11,11 @@ mod tests;
 mod vector;
 mod verdict;
 mod version;
+mod versions;
 
 pub use prover::{Proof, Prover};
 pub use refine::greatest_classes;
 pub use vector::Vector;
 pub use verdict::Verdict;
 pub use version::Version;
+pub use versions::{Stamp, Versions};

@@ -26,22 +26,22 @@ pub enum Proof<'v, 'p> {
     Splits(Vector<'p>),
 }
 
-/// A version with the frames of its questions.
+/// A version with the frames of its questions. The version is lent: by a list of published ones, so that workers share it.
 #[derive(Drop)]
-pub struct Prover<'p> {
-    current: Version<'p>,
+pub struct Prover<'v, 'p> {
+    current: &'v Version<'p>,
     base: Prepared<'p>,
     step: Prepared<'p>,
 }
 
-impl<'p> Model for Prover<'p> {
+impl<'v, 'p> Model for Prover<'v, 'p> {
     ghost use Rattle.verdict_stamp.specs.Versions.{Standing, IsProver};
 
     ghost Value = { Standing };
 
-    ghost view = { λ p. p.current };
+    ghost view = { λ p. p.current.now };
 
-    ghost invariant = { λ p. IsProver p.current p.base p.step };
+    ghost invariant = { λ p. IsProver p.current.now p.base p.step };
 }
 
 // The literals of a needed pair.
@@ -60,10 +60,10 @@ fn literals_of(classes: &Classes, pair: Needed) -> (Lit, Lit)
     (Lit::of(pair.rep, false), Lit::of(pair.member, sign))
 }
 
-impl<'p> Prover<'p> {
+impl<'v, 'p> Prover<'v, 'p> {
     /// Makes the frames: k from reset, and k + 1 in all but the last of which the classes hold.
-    pub fn new(alloc: Global, version: Version<'p>) -> Result<Prover<'p>, AllocError>
-        ensures { IfOk result (λ p. p ≡ version.entry) }
+    pub fn new(alloc: Global, version: &'v Version<'p>) -> Result<Prover<'v, 'p>, AllocError>
+        ensures { IfOk result (λ p. p ≡ version.now) }
     {
         let product = version.product();
         let base = Prepared::reset_frames(alloc, product, version.k())?;
@@ -76,15 +76,8 @@ impl<'p> Prover<'p> {
     }
 
     /// The version whose pairs are proved.
-    pub fn version(&self) -> &Version<'p>
-        ensures { result.now ≡ self.entry.now }
-    {
-        &self.current
-    }
-
-    /// The version again, without its frames.
-    pub fn into_version(self) -> Version<'p>
-        ensures { result ≡ self.entry }
+    pub fn version(&self) -> &'v Version<'p>
+        ensures { result.now ≡ self.now }
     {
         self.current
     }
@@ -95,7 +88,7 @@ impl<'p> Prover<'p> {
         requires rep { pair.rep ≡ least_of self.now.classes pair.member }
         ensures { IfOk result (IsFound (base_of self.now) (base_question self.now pair.member)) }
     {
-        let version = &self.current;
+        let version = self.current;
         let _places = version.product().len();
         let (a, b) = literals_of(version.classes(), pair);
         self.base.find(alloc, a, b, 0, version.k() - 1)
@@ -107,7 +100,7 @@ impl<'p> Prover<'p> {
         requires rep { pair.rep ≡ least_of self.now.classes pair.member }
         ensures { IfOk result (IsFound (step_of self.now) (step_question self.now pair.member)) }
     {
-        let version = &self.current;
+        let version = self.current;
         let _places = version.product().len();
         let (a, b) = literals_of(version.classes(), pair);
         self.step.find(alloc, a, b, version.k(), version.k())
@@ -115,7 +108,7 @@ impl<'p> Prover<'p> {
 
     /// Proves a needed pair: it holds exactly where it passes, in the first k frames of every run and after k frames in
     /// which the classes hold; else a vector separates it.
-    pub fn prove<'v>(&'v self, alloc: Global, pair: Needed) -> Result<Proof<'v, 'p>, AllocError>
+    pub fn prove(&self, alloc: Global, pair: Needed) -> Result<Proof<'v, 'p>, AllocError>
         requires needed { IsNeeded (places_of self.now.pair) self.now.classes pair.member }
         requires rep { pair.rep ≡ least_of self.now.classes pair.member }
         ensures { IfOk result (IsProof self.now pair.member) }

@@ -13,7 +13,7 @@ use std::alloc::{AllocError, Global};
 // Proves a needed pair of the prover's version, and splits the copy where that fails. Answers how many classes that adds.
 fn prove_pair(
     alloc: Global,
-    prover: &Prover<'_>,
+    prover: &Prover<'_, '_>,
     pair: Needed,
     next: &mut Version<'_>,
 ) -> Result<u32, AllocError>
@@ -36,7 +36,7 @@ fn prove_pair(
 // Proves a place's needed pair, unless it has none or the copy has it apart.
 fn prove_place(
     alloc: Global,
-    prover: &Prover<'_>,
+    prover: &Prover<'_, '_>,
     member: u32,
     next: &mut Version<'_>,
 ) -> Result<u32, AllocError>
@@ -67,7 +67,7 @@ fn round<'p>(alloc: Global, version: Version<'p>) -> Result<(Version<'p>, u32), 
     ensures none { IfOk result (λ r. r.1 ≡ 0 → AreOfGreatest version.entry.pair version.entry.k r.0.classes) }
 {
     let mut next = version.copy(alloc)?;
-    let prover = Prover::new(alloc, version)?;
+    let prover = Prover::new(alloc, &version)?;
     let n = next.product().len();
     let mut added: u32 = 0;
     for member in 0..n {

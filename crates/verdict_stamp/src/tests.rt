@@ -1,14 +1,17 @@
 //! The classes of worked pairs, and what proofs answer on the way to them.
 ghost use Rattle.std.specs.Prelude.{◌≡◌};
 
-use crate::{Proof, Prover, Version, greatest_classes};
+use crate::{Proof, Prover, Version, Versions, greatest_classes};
 use aig_graph::{BuildFault, NetBuilder, Netlist};
 use bit_rows::BitRow;
 use circ_model::Lit;
 use class_partition::Classes;
 use product_machine::{PairFault, Product};
 use std::alloc::{AllocError, Global};
+use std::sync::Wait;
 use std::test::Fail;
+use std::thread;
+use std::thread::Threads;
 
 fn literal(number: u32) -> Lit {
     Lit::of(number / 2, number % 2 == 1)
@@ -157,11 +160,11 @@ fn number_of(row: &BitRow) -> u32 {
 // else 9; the vector's bits; and the number and the count of the copy.
 fn prove_first(
     alloc: Global,
-    version: Version<'_>,
+    version: &Version<'_>,
     next: &mut Version<'_>,
 ) -> Result<[u32; 2], AllocError>
-    requires product { next.old.pair ≡ version.pair }
-    requires k { next.old.k ≡ version.k }
+    requires product { next.old.pair ≡ version.now.pair }
+    requires k { next.old.k ≡ version.now.k }
     ensures product { next.new.pair ≡ next.old.pair }
     ensures k { next.new.k ≡ next.old.k }
 {
@@ -181,8 +184,10 @@ fn prove_first(
 // Two toggling latches: the constant is taken apart by the frame after reset, and then the latches hold together.
 fn toggles(alloc: Global, product: &Product) -> Result<[[u32; 2]; 2], AllocError> {
     let mut version = Version::first(alloc, product, 1)?;
-    let first = prove_first(alloc, version.copy(alloc)?, &mut version)?;
-    let second = prove_first(alloc, version.copy(alloc)?, &mut version)?;
+    let now = version.copy(alloc)?;
+    let first = prove_first(alloc, &now, &mut version)?;
+    let now = version.copy(alloc)?;
+    let second = prove_first(alloc, &now, &mut version)?;
     Ok([first, second])
 }
 
@@ -191,6 +196,95 @@ fn a_vector_takes_the_constant_away_and_then_the_latches_hold(rt: HostRuntime) -
     let alloc = rt.alloc();
     match pair_of(alloc, 1, 1) {
         Ok(product) => assert!(rt; toggles(alloc, &product)? == [[9, 0b110], [2, 0]]),
+        Err(_) => assert!(rt; false),
+    }
+    Ok(())
+}
+
+// Pushes a copy and reads it. Answers its index, and whether its classes and number are those that were pushed.
+fn push_and_read<'p>(
+    rt: &impl Wait,
+    alloc: Global,
+    versions: &Versions<'p>,
+    version: &Version<'p>,
+) -> Result<(usize, bool), AllocError> {
+    let copy = version.copy(alloc)?;
+    let Ok(stamp) = versions.push(rt, copy) else {
+        return Err(AllocError);
+    };
+    let read = versions.at(&stamp);
+    let same = table_of(read.classes()) == table_of(version.classes());
+    Ok((stamp.index(), same && read.number() == version.number()))
+}
+
+// Three copies of the first version and the opening's get the indices 0 to 3, and a copy of a stamp is the same stamp.
+fn are_stamped(rt: &impl Wait, alloc: Global, product: &Product) -> Result<bool, AllocError> {
+    let versions = Versions::new(alloc)?;
+    let first = Version::first(alloc, product, 1)?;
+    let opening = Version::opening(alloc, product, 1)?;
+    for index in 0..3usize {
+        if push_and_read(rt, alloc, &versions, &first)? != (index, true) {
+            return Ok(false);
+        }
+    }
+    let (Ok(a), Ok(b)) = (versions.push(rt, opening), versions.push(rt, first)) else {
+        return Err(AllocError);
+    };
+    Ok(
+        a.index() == 3
+            && versions.same(&a, &a.copy())
+            && !versions.same(&a, &b)
+            && versions.at(&a).number() == 1
+            && versions.at(&b).number() == 0,
+    )
+}
+
+#[test]
+fn a_stamp_names_the_version_that_was_pushed(rt: HostRuntime) -> Result<(), Fail> {
+    let alloc = rt.alloc();
+    match pair_of(alloc, 1, 1) {
+        Ok(product) => assert!(rt; are_stamped(&rt, alloc, &product)?),
+        Err(_) => assert!(rt; false),
+    }
+    Ok(())
+}
+
+// Whether 40 copies that are pushed are read again.
+fn push_many<'p>(
+    rt: &impl Wait,
+    alloc: Global,
+    versions: &Versions<'p>,
+    version: &Version<'p>,
+) -> bool {
+    for _copy in 0..40u32 {
+        if !matches!(push_and_read(rt, alloc, versions, version), Ok((_, true))) {
+            return false;
+        }
+    }
+    true
+}
+
+// Two threads push copies of two versions at once.
+fn push_at_once<R: Threads + Wait + Sync>(
+    rt: &R,
+    alloc: Global,
+    product: &Product,
+) -> Result<(bool, bool), AllocError> {
+    let versions = Versions::new(alloc)?;
+    let first = Version::first(alloc, product, 1)?;
+    let opening = Version::opening(alloc, product, 1)?;
+    Ok(thread::join(
+        rt,
+        || push_many(rt, alloc, &versions, &first),
+        || push_many(rt, alloc, &versions, &opening),
+    ))
+}
+
+#[test]
+fn threads_push_and_read_at_once(rt: HostRuntime) -> Result<(), Fail> {
+    let alloc = rt.alloc();
+    match pair_of(alloc, 1, 1) {
+        Ok(product) => assert!(rt; push_at_once(&rt, alloc, &product)? == (true, true)),
         Err(_) => assert!(rt; false),
     }
     Ok(())

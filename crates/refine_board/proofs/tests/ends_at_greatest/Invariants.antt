@@ -5,4 +5,4 @@ abbrev pub ghosts-drawn_end-L-Ledger : goal.ghosts-drawn_end-L-Ledger
 ghosts-drawn_end-L-Ledger a = record { name = a.blank.name; parts = a.blank.parts }
 
 abbrev pub ghosts-drawn_end-L-Run : goal.ghosts-drawn_end-L-Run
-ghosts-drawn_end-L-Run a = record { pair = a.first.pair; k = a.first.k; workers = a.workers; opening = opened a.first.pair a.workers a.first.classes a.first.number }
+ghosts-drawn_end-L-Run a = record { pair = a.first.pair; k = a.first.k; workers = a.workers; opening = opened a.first.pair a.workers a.first.classes a.first.number; list = a.versions.now }

@@ -5,4 +5,4 @@ abbrev pub ghosts-two_workers-L-Ledger : goal.ghosts-two_workers-L-Ledger
 ghosts-two_workers-L-Ledger a = record { name = a.blank.name; parts = a.blank.parts }
 
 abbrev pub ghosts-two_workers-L-Run : goal.ghosts-two_workers-L-Run
-ghosts-two_workers-L-Run a = record { pair = a.first.pair; k = a.first.k; workers = a.workers; opening = opened a.first.pair a.workers a.first.classes a.first.number }
+ghosts-two_workers-L-Run a = record { pair = a.first.pair; k = a.first.k; workers = a.workers; opening = opened a.first.pair a.workers a.first.classes a.first.number; list = a.versions.now }

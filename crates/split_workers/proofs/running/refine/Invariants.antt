@@ -5,7 +5,7 @@ abbrev pub ghosts-refine_named-L-Ledger : goal.ghosts-refine_named-L-Ledger
 ghosts-refine_named-L-Ledger g a = record { name = a.blank.name; parts = a.blank.parts }
 
 abbrev pub ghosts-refine_named-L-Run : goal.ghosts-refine_named-L-Run
-ghosts-refine_named-L-Run g a = record { pair = a.first.pair; k = a.first.k; workers = a.workers; opening = opened a.first.pair a.workers a.first.classes a.first.number }
+ghosts-refine_named-L-Run g a = record { pair = a.first.pair; k = a.first.k; workers = a.workers; opening = opened a.first.pair a.workers a.first.classes a.first.number; list = a.versions.now }
 
 abbrev pub ghosts-refine_named-E-Ledger : goal.ghosts-refine_named-E-Ledger
 ghosts-refine_named-E-Ledger g a = record { name = a.ends.name; parts = a.ends.parts }

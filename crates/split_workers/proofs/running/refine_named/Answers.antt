@@ -1,5 +1,4 @@
 use Rattle.std.proofs.Common.{rules, ◌≡◌, ◌∙◌, ◌<◌, sym, ap, subst, arith, None, IfSome, get_or}
-use Rattle.verdict_stamp.specs.Versions.{Standing}
 use Rattle.split_workers.specs.Seats.{Seated, HasEnded}
 use Rattle.split_workers.proofs.running.refine_named.Goals as goal
 
@@ -11,10 +10,7 @@ map_vec-requires-after_bounds g c βs within = λ i x lt at.
       subst (λ n. n < g.L.Run.workers) (sym (ap (λ (s : Seated). s.party) is)) (omega (arith, below, c.requires.workers)),
       (
         (ap (λ (s : Seated). s.ended) is, ap (λ (s : Seated). s.owed) is),
-        (
-          (ap (λ (s : Standing). s.pair) c.in_ok-own.ensures ∙ c.requires.product, ap (λ (s : Standing). s.k) c.in_ok-own.ensures ∙ c.requires.k),
-          search rules,
-        ),
+        search rules,
       ),
     )
 

@@ -38,7 +38,7 @@ invariant_of-self g c =
     let is_after : after ≡ called q (released q before) = rw (c.release.ensures.marks, c.release.ensures.offers, number_is) (ap (called q) (sym (released_is q before))) in
     let is = running_after g.L.Run.pair g.L.Run.k g.L.Run.workers g.L.Run.opening before after i.journal.entries q (Already bits) (inside, refl, (holds, is_after)) may was in (
       rw (c.note.ensures.calls, c.note.ensures.entries, same) is,
-      subst (λ (s : Standing). IsOfRun g.L.Run.pair g.L.Run.k g.L.Run.workers g.L.Run.opening s i.first) (sym same) of,
+      subst (λ (s : Standing). IsOfRun g.L.Run.pair g.L.Run.k g.L.Run.workers g.L.Run.opening s i.first g.L.Run.list i.versions.now i.current) (sym same) of,
       rw (c.note.ensures.calls, c.note.ensures.entries, same) (held_after places i.cursor c.release.result i.waiting i.owed.total i.journal.room c.note.new.journal.room g.L.Ledger.parts i.rest.parts before after i.journal.entries (next_entry before q (Already bits)) held c.note.ensures.room (omega (arith, room, c.requires.room))
           (λ m lt open_now. held.passed m (omega (arith, lt, c.release.ensures.cursor)) (open_now.0, c.release.ensures.passed m lt open_now.1)) (omega (arith, c.release.ensures.cursor, held.cursor_in))),
     )
@@ -65,7 +65,7 @@ invariant_of-self-2 g c =
     let marks_is : c.open_all.new.marks.items ≡ replicate places Open = c.open_all.ensures ∙ ap (λ (n : ℕ). replicate n Open) was.supported.marks in
     let after : State = called q (cleared q (divided places v.classes before)) in
     let is = running_after g.L.Run.pair g.L.Run.k g.L.Run.workers g.L.Run.opening before after i.journal.entries q (Split bits added) (inside, refl, (v.classes, d.split, d.some, d.count, refl)) may was in
-    (rw (c.note-2.ensures.calls, c.note-2.ensures.entries, marks_is, number_is) is, record { pair_is = c.split_by-added.ensures.product ∙ of.pair_is; k_is = c.split_by-added.ensures.k ∙ of.k_is; first_pair = of.first_pair; first_k = of.first_k; opening_is = of.opening_is }, rw (c.note-2.ensures.calls, c.note-2.ensures.entries, marks_is, number_is) (held_after places i.cursor 0 i.waiting i.owed.total i.journal.room c.note-2.new.journal.room g.L.Ledger.parts i.rest.parts before after i.journal.entries (next_entry before q (Split bits added)) held c.note-2.ensures.room (omega (arith, room, c.requires.room)) (λ m lt open_now. absurd (omega arith)) (omega arith)))
+    (rw (c.note-2.ensures.calls, c.note-2.ensures.entries, marks_is, number_is) is, record { pair_is = c.split_by-added.ensures.product ∙ of.pair_is; k_is = c.split_by-added.ensures.k ∙ of.k_is; first_pair = of.first_pair; first_k = of.first_k; opening_is = of.opening_is; list_is = of.list_is; current_is = tt }, rw (c.note-2.ensures.calls, c.note-2.ensures.entries, marks_is, number_is) (held_after places i.cursor 0 i.waiting i.owed.total i.journal.room c.note-2.new.journal.room g.L.Ledger.parts i.rest.parts before after i.journal.entries (next_entry before q (Split bits added)) held c.note-2.ensures.room (omega (arith, room, c.requires.room)) (λ m lt open_now. absurd (omega arith)) (omega arith)))
 
 pub returns-clause-step : goal.returns-clause-step
 returns-clause-step g c =

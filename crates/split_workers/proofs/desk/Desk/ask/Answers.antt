@@ -1,12 +1,9 @@
-use Rattle.std.proofs.Common.{◌≡◌, ◌∙◌, ◌<◌, ◌+◌, ◌^◌, ℕ, true, refl, sym, ap, subst, arith, ⊎_elim}
+use Rattle.std.proofs.Common.{◌≡◌, ◌∙◌, ◌<◌, ◌+◌, ◌^◌, ℕ, true, refl, sym, ap, subst, arith}
 use Rattle.circ_model.specs.Meaning.{places_of}
-use Rattle.refine_board.specs.declared.journal.Step.{Step}
-use Rattle.refine_board.specs.declared.journal.Step.TheVariants.{Offered, Idle, Done, Back}
-use Rattle.refine_board.specs.Answers.{taken, IsOwnOffer}
+use Rattle.refine_board.specs.declared.journal.Step.TheVariants.{Offered, Idle}
+use Rattle.refine_board.specs.Answers.{taken}
 use Rattle.refine_board.specs.Running.{Appends}
 use Rattle.refine_board.proofs.Splits.{makes}
-use Rattle.split_workers.specs.Seats.{Totals}
-use Rattle.split_workers.specs.Desks.{held, IsDesk}
 use Rattle.split_workers.proofs.Steps.{desk_step, desk_same, desk_ended}
 use Rattle.split_workers.proofs.desk.Desk.ask.Goals as goal
 use Rattle.split_workers.proofs.desk.Desk.ask.Goals.{in-Ok-Offer, in-Ok-Idle, in-Ok-Done, in-Err}
@@ -26,18 +23,9 @@ invariant_of-self-2 g c =
     elim c.match-take.branch [
       | in-Ok-Offer w ↦
           let p = w.in-Ok-Offer.offer.pair in
-          let mine : w.in-Ok-Offer.offer.party ≡ party = (subst (λ t. IsOwnOffer i.board party t) w.in-Ok-Offer.field-0-is w.in-Ok-Offer.ensures.ok.1).0 in
           let adds = subst (λ t. Appends places i.board c.take.new.self party (taken t)) w.in-Ok-Offer.field-0-is w.in-Ok-Offer.ensures.ok.0 in
-          let more : Totals = record i.ledgers { owed = i.ledgers.owed + 1 } in
-          let out : IsDesk pair k workers (held c.take.new.self i.stopped) more E O =
-          desk_step pair k workers i.board c.take.new.self i.stopped i.stopped party (Offered p) i.ledgers more E O c.self.invariant adds under
-          (λ of. makes places party (Offered p) i.board.state c.take.new.self.state adds.0.2) (λ was. was) tt refl refl refl (omega arith) in
-          rw w.self-inside-is (⊎_elim
-          (λ stays. rw (stays.0, stays.1) out)
-          (λ back. desk_step pair k workers c.take.new.self w.hand_out.new.board i.stopped w.hand_out.new.stopped w.in-Ok-Offer.offer.party (Back p) more w.hand_out.new.ledgers E O out back.0 (subst (λ q. q < workers) (sym mine) under)
-          (λ of. makes places w.in-Ok-Offer.offer.party (Back p) c.take.new.self.state w.hand_out.new.board.state back.0.0.2) (λ was. back.1) back.1 refl
-          (ap (λ (t : Totals). t.weights) back.2) (ap (λ (t : Totals). t.ends) back.2) (rw back.2 (omega arith)))
-          w.hand_out.ensures.goes)
+          rw w.self-inside-is (desk_step pair k workers i.board c.take.new.self i.stopped i.stopped party (Offered p) i.ledgers w.owe.new.self E O c.self.invariant adds under
+          (λ of. makes places party (Offered p) i.board.state c.take.new.self.state adds.0.2) (λ was. was) tt refl w.owe.ensures.ends.1 w.owe.ensures.ends.0 (rw w.owe.ensures.owed (omega arith)))
       | in-Ok-Idle w ↦
           let adds = subst (λ t. Appends places i.board c.take.new.self party (taken t)) w.in-Ok-Idle.field-0-is w.in-Ok-Idle.ensures.ok.0 in
           rw w.self-inside-is (desk_step pair k workers i.board c.take.new.self i.stopped i.stopped party Idle i.ledgers i.ledgers E O c.self.invariant adds under

@@ -1,4 +1,4 @@
-use Rattle.std.proofs.Common.{◌≡◌, ◌≤◌, ◌+◌, ◌^◌, length}
+use Rattle.std.proofs.Common.{◌≡◌, ◌+◌, ◌^◌, length}
 use Rattle.split_workers.specs.Seats.{HaveEnded}
 use Rattle.split_workers.proofs.seat.Ledgers.all_back.Given as goal
 

@@ -2,7 +2,7 @@ use Rattle.std.proofs.Common.{◌≡◌, sym, subst}
 use Rattle.std.proofs.lemmas.List.Elements.{All-push}
 use Rattle.refine_board.specs.Running.{Owed}
 use Rattle.split_workers.specs.Seats.{AreHeld}
-use Rattle.split_workers.proofs.worker.Room.prove.Goals as goal
+use Rattle.split_workers.proofs.worker.Room.prove_at.Goals as goal
 
 pub returns-in-Ok-Holds-clause-held : goal.returns-in-Ok-Holds-clause-held
 returns-in-Ok-Holds-clause-held g c = λ is. subst (AreHeld c.args.party) (sym c.reserve.ensures.items) c.requires.held

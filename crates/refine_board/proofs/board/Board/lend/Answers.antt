@@ -6,7 +6,7 @@ use Rattle.refine_board.specs.declared.journal.Step.TheVariants.{Offered}
 use Rattle.refine_board.specs.States.{State, IsNeededPair, IsOpen, called, offered}
 use Rattle.refine_board.specs.Running.{Running, IsRunning, IsPassedBy, state_of, next_entry}
 use Rattle.refine_board.proofs.Runs.{running_after, was_there, held_offered}
-use Rattle.refine_board.proofs.board.Board.offer.Goals as goal
+use Rattle.refine_board.proofs.board.Board.lend.Goals as goal
 
 pub invariant_of-self : goal.invariant_of-self
 invariant_of-self g c =
