@@ -1,23 +1,32 @@
 //! Which clauses to look at when a literal falls: each clause stands in the chains of two of its literals, its watches. The
-//! chains lie in flat arrays, so that a copy is three rows of numbers. They are hints: no fact rests on them.
+//! chains lie in flat arrays, so that a copy is rows of numbers. They are hints: no fact rests on them.
 
 ghost use Rattle.std.specs.Prelude.{◌<◌, ◌^◌};
 
-use crate::trail::Trail;
+use crate::trail::{Trail, Value, value_in};
+use crate::uses::Uses;
 use cnf_store::Arena;
 use std::alloc::{AllocError, Global};
 
 /// What stands after the last watch of a chain.
 pub const END: u32 = 4294967295;
 
+// A watch: its literal, and the next watch of that literal's chain.
+#[derive(Clone, Copy)]
+struct Link {
+    lit: u32,
+    next: u32,
+}
+
 /// The watches: clause c, counted from 0, has the watches 2c and 2c + 1.
 #[derive(Drop)]
 pub struct Watches {
     // by literal: the first watch of its chain
     heads: Vec<u32>,
-    // by watch: its literal, and the next watch of that literal's chain
-    lits: Vec<u32>,
-    nexts: Vec<u32>,
+    // by watch
+    links: Vec<Link>,
+    // by clause: where a literal that isn't false was found last
+    spots: Vec<u32>,
 }
 
 impl Watches {
@@ -27,8 +36,8 @@ impl Watches {
     {
         Ok(Watches {
             heads: vec![in alloc; END; 2 * vars]?,
-            lits: Vec::new(alloc),
-            nexts: Vec::new(alloc),
+            links: Vec::new(alloc),
+            spots: Vec::new(alloc),
         })
     }
 
@@ -42,14 +51,14 @@ impl Watches {
         }
         Ok(Watches {
             heads,
-            lits: Vec::from_slice(alloc, self.lits.as_slice())?,
-            nexts: Vec::from_slice(alloc, self.nexts.as_slice())?,
+            links: Vec::from_slice(alloc, self.links.as_slice())?,
+            spots: Vec::from_slice(alloc, self.spots.as_slice())?,
         })
     }
 
     /// How many watches there are.
     pub fn len(&self) -> usize {
-        self.lits.len()
+        self.links.len()
     }
 
     /// The first watch of a literal's chain.
@@ -63,8 +72,8 @@ impl Watches {
 
     /// The next watch of the same chain.
     pub fn next(&self, watch: u32) -> u32 {
-        if (watch as usize) < self.nexts.len() {
-            self.nexts[watch as usize]
+        if (watch as usize) < self.links.len() {
+            self.links[watch as usize].next
         } else {
             END
         }
@@ -73,11 +82,33 @@ impl Watches {
     /// The literal of the same clause's other watch.
     pub fn other(&self, watch: u32) -> u32 {
         let twin = (watch ^ 1) as usize;
-        if twin < self.lits.len() {
-            self.lits[twin]
+        if twin < self.links.len() {
+            self.links[twin].lit
         } else {
             END
         }
+    }
+
+    /// Looks in a clause for a literal that doesn't seem false, other than this one, from where one was found last.
+    pub fn glance(
+        &mut self,
+        number: usize,
+        clause: &[u32],
+        other: u32,
+        values: &[Value],
+    ) -> Option<u32> {
+        if number >= self.spots.len() {
+            return None;
+        }
+        for place in self.spots[number] as usize..clause.len() {
+            let lit = clause[place];
+            if lit != other && value_in(values, lit) != Value::False {
+                self.spots[number] = u32::try_from(place).unwrap_or(0);
+                return Some(lit);
+            }
+        }
+        self.spots[number] = 0;
+        None
     }
 
     /// Moves a watch from the chain of a literal, in which it comes after `before`, to that of another.
@@ -87,18 +118,17 @@ impl Watches {
             if (from as usize) < self.heads.len() {
                 self.heads[from as usize] = next;
             }
-        } else if (before as usize) < self.nexts.len() {
-            self.nexts[before as usize] = next;
+        } else if (before as usize) < self.links.len() {
+            self.links[before as usize].next = next;
         }
         self.put(watch, to);
     }
 
     // Puts a watch before the chain of a literal.
     fn put(&mut self, watch: u32, lit: u32) {
-        let first = self.first(lit);
-        if (watch as usize) < self.nexts.len() && (watch as usize) < self.lits.len() {
-            self.lits[watch as usize] = lit;
-            self.nexts[watch as usize] = first;
+        let next = self.first(lit);
+        if (watch as usize) < self.links.len() {
+            self.links[watch as usize] = Link { lit, next };
             if (lit as usize) < self.heads.len() {
                 self.heads[lit as usize] = watch;
             }
@@ -107,56 +137,40 @@ impl Watches {
 
     // Puts a watch before the chain of its own literal.
     fn put_again(&mut self, watch: u32) {
-        if (watch as usize) < self.lits.len() {
-            let lit = self.lits[watch as usize];
+        if (watch as usize) < self.links.len() {
+            let lit = self.links[watch as usize].lit;
             self.put(watch, lit);
         }
     }
 
     // Adds a watch.
     fn add(&mut self, lit: u32) -> Result<(), AllocError> {
-        let watch = u32::try_from(self.lits.len()).unwrap_or(END);
-        self.lits.push(lit)?;
-        self.nexts.push(END)?;
+        let watch = u32::try_from(self.links.len()).unwrap_or(END);
+        self.links.push(Link { lit, next: END })?;
         self.put(watch, lit);
         Ok(())
     }
 
     /// Watches the clauses that aren't watched yet.
     pub fn attach(&mut self, db: &Arena<u32>, trail: &Trail) -> Result<(), AllocError> {
-        for number in self.lits.len() / 2..db.len() {
+        for number in self.spots.len()..db.len() {
             let (first, second) = last_two(db.get(number), &trail.lits, &trail.at);
             self.add(first)?;
             self.add(second)?;
+            self.spots.push(0)?;
         }
         Ok(())
     }
 
-    // Forgets the watches of long learned clauses, but for the newest. The clauses stay.
-    fn forget(&mut self, db: &Arena<u32>, first: usize, newest: usize) {
+    /// Forgets the watches of the clauses that aren't to stay. The clauses themselves do.
+    pub fn forget(&mut self, db: &Arena<u32>, uses: &Uses) {
         self.heads.fill(END);
-        for watch in 0..self.lits.len() {
-            if stays(db, watch / 2, first, newest) {
+        for watch in 0..self.links.len() {
+            if uses.keeps(db, watch / 2) {
                 self.put_again(u32::try_from(watch).unwrap_or(END));
             }
         }
     }
-
-    /// The same at every eighth restart.
-    pub fn forget_at(&mut self, db: &Arena<u32>, first: usize, restarts: u32) {
-        let known = db.len();
-        if restarts % 8 == 0 && known > first {
-            self.forget(db, first, known - (known - first) / 4);
-        }
-    }
-}
-
-// Whether a clause is short, given or new.
-fn stays(db: &Arena<u32>, number: usize, first: usize, newest: usize) -> bool {
-    if number >= db.len() {
-        return false;
-    }
-    number < first || number >= newest || db.get(number).len() <= 5
 }
 
 // The two literals that fall last.

@@ -15,9 +15,11 @@ mod hints;
 mod logs;
 mod looking;
 mod ordering;
+mod pace;
 mod ready;
 mod solving;
 mod trail;
+mod uses;
 mod watching;
 
 pub use answer::{Answer, solve, solve_with};

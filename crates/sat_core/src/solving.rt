@@ -13,7 +13,9 @@ use crate::hints::Hints;
 use crate::logs::Line;
 use crate::looking::{Look, look_through};
 use crate::ordering::Order;
+use crate::pace::Pace;
 use crate::trail::Trail;
+use crate::uses::Uses;
 use crate::watching::{propagate, read_units};
 use cnf_store::Arena;
 use std::alloc::{AllocError, Global};
@@ -342,8 +344,8 @@ fn restart(
     Ok(())
 }
 
-// Raises the variables of the clauses that the last line rests on.
-fn raise_last(s: &Solver, order: &mut Order) {
+// Raises the clauses that the last line rests on, and their variables.
+fn raise_last(s: &Solver, order: &mut Order, uses: &mut Uses) {
     if s.log.len() == 0 {
         return;
     }
@@ -351,12 +353,30 @@ fn raise_last(s: &Solver, order: &mut Order) {
     for h in &line.hints {
         let number = *h as usize;
         if number > 0 && number <= s.db.len() {
+            uses.raise(number - 1);
             for l in s.db.get(number - 1) {
                 order.raise(*l as usize / 2);
             }
         }
     }
     order.grow();
+}
+
+// Watches the clause that a conflict had learned, and looks no more at those that conflicts use seldom.
+fn take_in(
+    s: &Solver,
+    w: &mut Watches,
+    order: &mut Order,
+    uses: &mut Uses,
+) -> Result<(), AllocError> {
+    w.attach(&s.db, &s.trail)?;
+    raise_last(s, order, uses);
+    uses.add()?;
+    if uses.are_many(s.trail.lits.len()) {
+        uses.choose(&s.db)?;
+        w.forget(&s.db, uses);
+    }
+    Ok(())
 }
 
 // The trail as a row of bits.
@@ -404,16 +424,18 @@ pub fn search(
         trail: Trail::new(alloc, vars)?,
     };
     read_units(vars, formula, &mut s, units.as_slice())?;
+    let mut uses = Uses::new(alloc, formula.len());
+    let mut pace = Pace::new();
     let mut restarts: u32 = 0;
     let mut conflicts: u32 = 0;
     let mut from = 0;
     'steps: loop {
-        if conflicts >= pace(restarts) && restarts < 1000 {
+        if conflicts >= pace.conflicts() && restarts < 1000 {
             restarts += 1;
             conflicts = 0;
+            pace.advance();
             restart(vars, formula, &mut s, &mut order)?;
             from = s.trail.lits.len();
-            w.forget_at(&s.db, formula.len(), restarts);
         } else {
             let known = s.db.len();
             match step(alloc, vars, formula, &mut s, &mut w, &mut order, from)? {
@@ -423,21 +445,9 @@ pub fn search(
             }
             if s.db.len() > known {
                 conflicts = conflicts.saturating_add(1);
-                w.attach(&s.db, &s.trail)?;
-                raise_last(&s, &mut order);
+                take_in(&s, &mut w, &mut order, &mut uses)?;
             }
             from = s.trail.lits.len().saturating_sub(1);
         }
-    }
-}
-
-// How many conflicts until the next restart.
-fn pace(restarts: u32) -> u32 {
-    match restarts % 8 {
-        7 => 1600,
-        3 => 400,
-        1 => 200,
-        5 => 200,
-        _ => 100,
     }
 }

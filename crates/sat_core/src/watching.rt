@@ -13,6 +13,7 @@ use crate::analysis::complement;
 use crate::chains::{END, Watches};
 use crate::looking::{Found, Worth, inspect, value_of};
 use crate::solving::{Solver, add_implied};
+use crate::trail::{Value, value_in};
 use cnf_store::Arena;
 use std::alloc::AllocError;
 
@@ -77,14 +78,18 @@ fn visit(
     vars: usize,
     formula: &Arena<u32>,
     s: &mut Solver,
+    w: &mut Watches,
     other: u32,
     number: usize,
 ) -> Result<Seen, AllocError>
     requires { Keeps vars formula.now s.old }
     ensures { IfOk result (HasSeen vars formula.now s.old s.new number) }
 {
-    if number >= s.db.len() || is_true(s, other) {
+    if number >= s.db.len() || value_in(&s.trail.values, other) == Value::True {
         return Ok(Seen::Stays);
+    }
+    if let Some(found) = w.glance(number, s.db.get(number), other, &s.trail.values) {
+        return Ok(Seen::Moves(found));
     }
     match seek_in(vars, formula, s, other, number) {
         Sought::At(found) => Ok(Seen::Moves(found)),
@@ -99,15 +104,6 @@ fn seek_in(vars: usize, formula: &Arena<u32>, s: &Solver, other: u32, number: us
     ensures { IsSought s.now.trail.lits.items (clause_at s.now.db (number + 1)) other result }
 {
     seek(s.db.get(number), other, &s.trail.lits, &s.trail.at)
-}
-
-fn is_true(s: &Solver, lit: u32) -> bool {
-    let var = lit as usize / 2;
-    if var >= s.trail.at.len() {
-        return false;
-    }
-    let place = s.trail.at[var];
-    place != 0 && s.trail.lits[place - 1] == lit
 }
 
 fn is_free(s: &Solver, lit: u32) -> bool
@@ -134,9 +130,6 @@ fn settle(
 {
     if has && is_free(s, other) {
         add_implied(vars, formula, s, other, number as u64 + 1)?;
-        return Ok(Seen::Stays);
-    }
-    if has && is_true(s, other) {
         return Ok(Seen::Stays);
     }
     if is_wrong(s, number) {
@@ -177,7 +170,8 @@ fn sweep(
             return Ok(None);
         }
         let next = w.next(watch);
-        match visit(vars, formula, s, w.other(watch), watch as usize / 2)? {
+        let other = w.other(watch);
+        match visit(vars, formula, s, w, other, watch as usize / 2)? {
             Seen::Stays => before = watch,
             Seen::Moves(lit) => w.shift(fallen, before, watch, lit),
             Seen::Conflict => return Ok(Some(watch as usize / 2)),
