@@ -3,9 +3,9 @@
 
 ghost use Rattle.std.specs.Prelude.{◌<◌, ◌^◌};
 
+use crate::clauses::Clauses;
 use crate::trail::{Trail, Value, value_in};
 use crate::uses::Uses;
-use cnf_store::Arena;
 use std::alloc::{AllocError, Global};
 
 /// What stands after the last watch of a chain.
@@ -18,9 +18,11 @@ struct Link {
     next: u32,
 }
 
-/// The watches: clause c, counted from 0, has the watches 2c and 2c + 1.
+/// The watches of clauses from a number on: the one at place c of them has the watches 2c and 2c + 1.
 #[derive(Drop)]
 pub struct Watches {
+    // the number of the first clause
+    base: usize,
     // by literal: the first watch of its chain
     heads: Vec<u32>,
     // by watch
@@ -35,25 +37,53 @@ impl Watches {
         requires { vars < 2 ^ 31 }
     {
         Ok(Watches {
+            base: 0,
             heads: vec![in alloc; END; 2 * vars]?,
             links: Vec::new(alloc),
             spots: Vec::new(alloc),
         })
     }
 
-    /// The same chains, with room for the literals of so many variables.
-    pub fn copy(&self, alloc: Global, vars: usize) -> Result<Watches, AllocError>
-        requires { vars < 2 ^ 31 }
-    {
-        let mut heads = Vec::from_slice(alloc, self.heads.as_slice())?;
-        for _ in heads.len()..2 * vars {
-            heads.push(END)?;
-        }
+    /// The same chains.
+    pub fn copy(&self, alloc: Global) -> Result<Watches, AllocError> {
         Ok(Watches {
-            heads,
+            base: self.base,
+            heads: Vec::from_slice(alloc, self.heads.as_slice())?,
             links: Vec::from_slice(alloc, self.links.as_slice())?,
             spots: Vec::from_slice(alloc, self.spots.as_slice())?,
         })
+    }
+
+    /// Has room for the literals of so many variables.
+    pub fn widen(&mut self, vars: usize) -> Result<(), AllocError>
+        requires { vars < 2 ^ 31 }
+    {
+        for _ in self.heads.len()..2 * vars {
+            self.heads.push(END)?;
+        }
+        Ok(())
+    }
+
+    // Empties the chains.
+    fn unlink(&mut self) {
+        for link in self.links.iter() {
+            if (link.lit as usize) < self.heads.len() {
+                self.heads[link.lit as usize] = END;
+            }
+        }
+    }
+
+    /// Watches no clause, and then those from this number on.
+    pub fn clear(&mut self, base: usize) {
+        self.unlink();
+        self.base = base;
+        self.links.clear();
+        self.spots.clear();
+    }
+
+    /// The clause of a watch.
+    pub fn clause_of(&self, watch: u32) -> usize {
+        self.base.saturating_add(watch as usize / 2)
     }
 
     /// How many watches there are.
@@ -97,17 +127,18 @@ impl Watches {
         other: u32,
         values: &[Value],
     ) -> Option<u32> {
-        if number >= self.spots.len() {
+        if number < self.base || number - self.base >= self.spots.len() {
             return None;
         }
-        for place in self.spots[number] as usize..clause.len() {
+        let spot = number - self.base;
+        for place in self.spots[spot] as usize..clause.len() {
             let lit = clause[place];
             if lit != other && value_in(values, lit) != Value::False {
-                self.spots[number] = u32::try_from(place).unwrap_or(0);
+                self.spots[spot] = u32::try_from(place).unwrap_or(0);
                 return Some(lit);
             }
         }
-        self.spots[number] = 0;
+        self.spots[spot] = 0;
         None
     }
 
@@ -152,8 +183,8 @@ impl Watches {
     }
 
     /// Watches the clauses that aren't watched yet.
-    pub fn attach(&mut self, db: &Arena<u32>, trail: &Trail) -> Result<(), AllocError> {
-        for number in self.spots.len()..db.len() {
+    pub fn attach(&mut self, db: &Clauses, trail: &Trail) -> Result<(), AllocError> {
+        for number in self.base.saturating_add(self.spots.len())..db.len() {
             let (first, second) = last_two(db.get(number), &trail.lits, &trail.at);
             self.add(first)?;
             self.add(second)?;
@@ -163,11 +194,12 @@ impl Watches {
     }
 
     /// Forgets the watches of the clauses that aren't to stay. The clauses themselves do.
-    pub fn forget(&mut self, db: &Arena<u32>, uses: &Uses) {
-        self.heads.fill(END);
-        for watch in 0..self.links.len() {
-            if uses.keeps(db, watch / 2) {
-                self.put_again(u32::try_from(watch).unwrap_or(END));
+    pub fn forget(&mut self, db: &Clauses, uses: &Uses) {
+        self.unlink();
+        for place in 0..self.links.len() {
+            let watch = u32::try_from(place).unwrap_or(END);
+            if uses.keeps(db, self.clause_of(watch)) {
+                self.put_again(watch);
             }
         }
     }

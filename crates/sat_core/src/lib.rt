@@ -9,8 +9,10 @@
 mod analysis;
 mod answer;
 mod chains;
+mod clauses;
 mod cone;
 mod edge;
+mod guide;
 mod hints;
 mod logs;
 mod looking;
@@ -21,6 +23,8 @@ mod solving;
 mod trail;
 mod uses;
 mod watching;
+mod workspace;
 
 pub use answer::{Answer, solve, solve_with};
 pub use ready::Ready;
+pub use workspace::Workspace;

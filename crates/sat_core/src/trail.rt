@@ -122,6 +122,25 @@ impl Trail {
     }
 }
 
+impl Trail {
+    /// Takes back all.
+    pub fn clear(&mut self)
+        ensures lits { self.new.lits.items ≡ [] }
+        ensures size { length self.new.at.items ≡ length self.old.at.items }
+    {
+        let Trail {
+            lits,
+            reasons,
+            at,
+            starts,
+            values,
+        } = self;
+        unwind(lits, at, values, 0);
+        reasons.truncate(0);
+        starts.truncate(0);
+    }
+}
+
 // Takes back literals.
 fn unwind(lits: &mut Vec<u32>, at: &mut Vec<usize>, values: &mut [Value], cut: usize)
     requires placed { IsPlaced (length at.old.items) lits.old.items at.old.items }

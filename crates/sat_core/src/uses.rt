@@ -1,7 +1,7 @@
 //! Which learned clauses to go on watching: the short ones, and the half that conflicts used most of late (Eén and Sörensson,
 //! SAT 2003). The others stay in the derivation, but are looked at no more. No fact rests on it.
 
-use cnf_store::Arena;
+use crate::clauses::Clauses;
 use std::alloc::{AllocError, Global};
 
 /// How much each learned clause was used, and how many may be watched.
@@ -34,14 +34,14 @@ impl Uses {
             bump: 1 << 16,
             least: 0,
             watched: 0,
-            room: if first / 3 < 100 { 100 } else { first / 3 },
+            room: if first / 3 < 2000 { 2000 } else { first / 3 },
             wait: 100,
             span: 100,
         }
     }
 
     /// Whether clause `number` is watched on.
-    pub fn keeps(&self, db: &Arena<u32>, number: usize) -> bool {
+    pub fn keeps(&self, db: &Clauses, number: usize) -> bool {
         if number < self.first {
             return true;
         }
@@ -89,7 +89,7 @@ impl Uses {
     }
 
     /// Chooses those that stay: about half, and the short ones.
-    pub fn choose(&mut self, db: &Arena<u32>) -> Result<(), AllocError> {
+    pub fn choose(&mut self, db: &Clauses) -> Result<(), AllocError> {
         self.ranking.clear();
         for learned in 0..self.weights.len() {
             if self.weights[learned] > 0 && is_long(db, self.first.saturating_add(learned)) {
@@ -108,7 +108,7 @@ impl Uses {
     }
 
     // Marks the others as forgotten.
-    fn drop_others(&mut self, db: &Arena<u32>) {
+    fn drop_others(&mut self, db: &Clauses) {
         let mut watched: usize = 0;
         for learned in 0..self.weights.len() {
             if self.weights[learned] < self.least
@@ -124,7 +124,7 @@ impl Uses {
 }
 
 // Whether a clause has more than two literals.
-fn is_long(db: &Arena<u32>, number: usize) -> bool {
+fn is_long(db: &Clauses, number: usize) -> bool {
     number < db.len() && db.get(number).len() > 2
 }
 
