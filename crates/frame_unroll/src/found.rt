@@ -16,7 +16,7 @@ use circ_model::Lit;
 use class_partition::Classes;
 use cnf_store::Cnf;
 use product_machine::{Path, Product};
-use sat_core::{Answer, Ready};
+use sat_core::{Answer, Ready, Workspace};
 use sat_log::Log;
 use std::alloc::{AllocError, Global};
 use std::marker::Model;
@@ -97,7 +97,28 @@ impl<'p> Prepared<'p> {
     }
 
     /// Whether two literals differ, in some of the frames first to last, on some path that the frames ask for: counted from 0,
-    /// both included. It tells the first of those frames in which they do. An `Err` is want of memory.
+    /// both included. It tells the first of those frames in which they do. An `Err` is want of memory. It works in the memory
+    /// of earlier questions, of any frames: one over the same frames costs what it touches.
+    pub fn find_in(
+        &self,
+        alloc: Global,
+        work: &mut Workspace,
+        a: Lit,
+        b: Lit,
+        first: u32,
+        last: u32,
+    ) -> Result<Found, AllocError>
+        requires left { IsLiteral self.now.pair a }
+        requires right { IsLiteral self.now.pair b }
+        requires order { first ≤ last }
+        requires within { last < self.now.frames }
+        ensures { IfOk result (IsFound self.now (asks a b first last)) }
+    {
+        self.frames
+            .answer(alloc, &self.ready, work, a, b, first, last)
+    }
+
+    /// The same in memory of its own.
     pub fn find(
         &self,
         alloc: Global,
@@ -112,7 +133,8 @@ impl<'p> Prepared<'p> {
         requires within { last < self.now.frames }
         ensures { IfOk result (IsFound self.now (asks a b first last)) }
     {
-        self.frames.answer(alloc, &self.ready, a, b, first, last)
+        let mut work = Workspace::new();
+        self.find_in(alloc, &mut work, a, b, first, last)
     }
 }
 
@@ -122,6 +144,7 @@ impl<'p> Unrolled<'p> {
         &self,
         alloc: Global,
         ready: &Ready,
+        work: &mut Workspace,
         a: Lit,
         b: Lit,
         first: u32,
@@ -143,7 +166,7 @@ impl<'p> Unrolled<'p> {
             count: last - first + 1,
         };
         let own = self.beside(alloc, question)?;
-        match ready.solve_with(alloc, &own)? {
+        match ready.solve_in(alloc, work, &own)? {
             Answer::Unsat(log) => Ok(Found::None(log)),
             Answer::Sat(row) => Ok(Found::Path(self.seen_in(alloc, &row, question)?)),
         }

@@ -5,7 +5,7 @@ ghost use Rattle.circ_model.specs.Correspondence.{IsLiteral};
 ghost use Rattle.circ_model.specs.Meaning.{places_of};
 ghost use Rattle.cnf_store.specs.Clauses.{IsLiteral as IsVariable, AreLiterals, literal_true, clause_true, satisfies};
 
-use crate::{Found, Prepared, Unrolled};
+use crate::{Found, Prepared, Unrolled, Workspace};
 use aig_graph::{BuildFault, NetBuilder, Netlist};
 use bit_rows::BitRow;
 use circ_model::Lit;
@@ -194,8 +194,23 @@ fn has_bits(row: &BitRow, bits: u32) -> bool {
 // Two literals, the first and the last frame in which they may differ, and the first frame in which they do with its row.
 type Row = (Lit, Lit, u32, u32, Option<(u32, u32)>);
 
-// Whether a question over so many frames comes to what its row says.
-fn comes_out(alloc: Global, frames: &Prepared<'_>, count: u32, row: Row) -> Result<bool, AllocError>
+// Whether an answer is what a row says.
+fn is_as_told(found: &Found, seen: Option<(u32, u32)>) -> bool {
+    match (found, seen) {
+        (Found::None(log), None) => log.len() > 0,
+        (Found::Path(at), Some((frame, bits))) => at.frame == frame && has_bits(&at.bits, bits),
+        _ => false,
+    }
+}
+
+// Whether a question over so many frames comes to what its row says, in a workspace and without one.
+fn comes_out(
+    alloc: Global,
+    work: &mut Workspace,
+    frames: &Prepared<'_>,
+    count: u32,
+    row: Row,
+) -> Result<bool, AllocError>
     requires places { places_of frames.now.pair ≡ 3 }
     requires frames { frames.now.frames ≡ count }
 {
@@ -203,15 +218,13 @@ fn comes_out(alloc: Global, frames: &Prepared<'_>, count: u32, row: Row) -> Resu
     if a.var() >= 3 || b.var() >= 3 || first > last || last >= count {
         return Ok(false);
     }
-    match (frames.find(alloc, a, b, first, last)?, seen) {
-        (Found::None(log), None) => Ok(log.len() > 0),
-        (Found::Path(at), Some((frame, bits))) => Ok(at.frame == frame && has_bits(&at.bits, bits)),
-        _ => Ok(false),
-    }
+    let kept = frames.find_in(alloc, work, a, b, first, last)?;
+    let alone = frames.find(alloc, a, b, first, last)?;
+    Ok(is_as_told(&kept, seen) && is_as_told(&alone, seen))
 }
 
 // Whether three frames from reset answer as they must: both latches are low, then high, then low.
-fn reset_answers(alloc: Global, product: &Product) -> Result<bool, AllocError>
+fn reset_answers(alloc: Global, work: &mut Workspace, product: &Product) -> Result<bool, AllocError>
     requires { places_of product.now ≡ 3 }
 {
     let frames = Prepared::reset_frames(alloc, product, 3)?;
@@ -224,7 +237,7 @@ fn reset_answers(alloc: Global, product: &Product) -> Result<bool, AllocError>
         (low, right, 2, 2, None),
         (low, right.not(), 1, 2, Some((2, 0b000))),
     ] {
-        if !comes_out(alloc, &frames, 3, row)? {
+        if !comes_out(alloc, work, &frames, 3, row)? {
             return Ok(false);
         }
     }
@@ -232,7 +245,7 @@ fn reset_answers(alloc: Global, product: &Product) -> Result<bool, AllocError>
 }
 
 // Whether a frame from any state in which the latches are equal, and the next, answer as they must.
-fn step_answers(alloc: Global, product: &Product) -> Result<bool, AllocError>
+fn step_answers(alloc: Global, work: &mut Workspace, product: &Product) -> Result<bool, AllocError>
     requires { places_of product.now ≡ 3 }
 {
     let classes = two_classes(alloc)?;
@@ -246,7 +259,7 @@ fn step_answers(alloc: Global, product: &Product) -> Result<bool, AllocError>
         (low, left, 0, 0, Some((0, 0b110))),
         (low, right, 1, 1, Some((1, 0b110))),
     ] {
-        if !comes_out(alloc, &frames, 2, row)? {
+        if !comes_out(alloc, work, &frames, 2, row)? {
             return Ok(false);
         }
     }
@@ -260,7 +273,10 @@ fn questions_over_frames_of_two_toggling_latches(rt: HostRuntime) -> Result<(), 
         Ok(product) => {
             assert!(rt; product.len() == 3);
             if product.len() == 3 {
-                assert!(rt; reset_answers(alloc, &product)? && step_answers(alloc, &product)?);
+                let mut work = Workspace::new();
+                assert!(rt; reset_answers(alloc, &mut work, &product)?);
+                assert!(rt; step_answers(alloc, &mut work, &product)?);
+                assert!(rt; reset_answers(alloc, &mut work, &product)?);
             }
         }
         Err(_) => assert!(rt; false),

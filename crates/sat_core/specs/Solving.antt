@@ -6,7 +6,8 @@ use Rattle.sat_core.specs.declared.solving.Outcome.{Outcome}
 use Rattle.sat_core.specs.declared.solving.Outcome.TheVariants.{Sat, Unsat}
 use Rattle.sat_core.specs.declared.solving.Gone.{Gone}
 use Rattle.sat_core.specs.declared.solving.Gone.TheVariants.{On, Refuted, Full}
-use Rattle.sat_core.specs.Derivations.{AreWithin, Satisfies}
+use Rattle.sat_core.specs.declared.trail.Trail.{Trail}
+use Rattle.sat_core.specs.Derivations.{AreWithin, Satisfies, MakesTrue}
 use Rattle.sat_core.specs.Logged.{AllFollow, clauses_of, IsRefuted}
 use Rattle.sat_core.specs.Trail.{StandsBelow, AreReasoned}
 use Rattle.sat_core.specs.Rank.{rank}
@@ -26,6 +27,11 @@ abbrev pub HasGone : ℕ → List (List ℕ) → Solver → Solver → Gone → 
 HasGone vars formula old new On = Keeps vars formula new × (rank vars old.trail.reasons.items < rank vars new.trail.reasons.items)
 HasGone vars formula old new Refuted = IsRefuted vars formula new.log.items
 HasGone vars formula old new Full = Standing new.trail.lits.items formula × (length new.trail.at.items ≡ vars)
+
+-- the row makes true what stands on the trail
+abbrev pub IsRowOf : Trail → Outcome → Type 0
+IsRowOf trail (Sat row) = (length row.items ≡ length trail.at.items) × ((l : ℕ) → StandsBelow trail.lits.items (length trail.lits.items) l → MakesTrue row.items l)
+IsRowOf trail (Unsat log) = ⊥
 
 abbrev pub IsOutcome : ℕ → List (List ℕ) → Outcome → Type 0
 IsOutcome vars formula (Sat row) = (length row.items ≡ vars) × Satisfies row.items formula

@@ -5,7 +5,7 @@ ghost use Rattle.std.specs.List.{All, Any, Contains};
 ghost use Rattle.sat_core.specs.Derivations.{neg, clause_at, Refutes};
 ghost use Rattle.sat_core.specs.Trail.{StandsBelow, IsPlaced, AreReasoned, Reasoned, IsMarked, Ready, open_below, Marks, State, IsLearned, StandsFrom, AreKnown};
 
-use cnf_store::Arena;
+use crate::clauses::Clauses;
 use std::alloc::AllocError;
 
 /// The complement.
@@ -112,7 +112,7 @@ fn mark(
 
 // Resolves with the reason of place i.
 fn resolve(
-    db: &Arena<u32>,
+    db: &Clauses,
     lits: &[u32],
     reasons: &[u64],
     at: &[usize],
@@ -142,7 +142,7 @@ fn resolve(
 
 // Marks the literals of the conflict.
 fn begin(
-    db: &Arena<u32>,
+    db: &Clauses,
     lits: &[u32],
     at: &[usize],
     start: usize,
@@ -172,7 +172,7 @@ fn begin(
 
 /// Learns a clause from a conflict: resolves back to the first place that all paths from the last decision go through.
 pub fn learn(
-    db: &Arena<u32>,
+    db: &Clauses,
     lits: &[u32],
     reasons: &[u64],
     at: &[usize],
@@ -234,7 +234,7 @@ fn turn(hints: &mut Vec<u64>)
 
 /// Derives the empty clause from a conflict that rests on no decision.
 pub fn learn_nothing(
-    db: &Arena<u32>,
+    db: &Clauses,
     lits: &[u32],
     reasons: &[u64],
     at: &[usize],

@@ -1,23 +1,34 @@
 //! Which clauses to look at when a literal falls: each clause stands in the chains of two of its literals, its watches. The
-//! chains lie in flat arrays, so that a copy is three rows of numbers. They are hints: no fact rests on them.
+//! chains lie in flat arrays, so that a copy is rows of numbers. They are hints: no fact rests on them.
 
 ghost use Rattle.std.specs.Prelude.{◌<◌, ◌^◌};
 
-use crate::trail::Trail;
-use cnf_store::Arena;
+use crate::clauses::Clauses;
+use crate::trail::{Trail, Value, value_in};
+use crate::uses::Uses;
 use std::alloc::{AllocError, Global};
 
 /// What stands after the last watch of a chain.
 pub const END: u32 = 4294967295;
 
-/// The watches: clause c, counted from 0, has the watches 2c and 2c + 1.
+// A watch: its literal, and the next watch of that literal's chain.
+#[derive(Clone, Copy)]
+struct Link {
+    lit: u32,
+    next: u32,
+}
+
+/// The watches of clauses from a number on: the one at place c of them has the watches 2c and 2c + 1.
 #[derive(Drop)]
 pub struct Watches {
+    // the number of the first clause
+    base: usize,
     // by literal: the first watch of its chain
     heads: Vec<u32>,
-    // by watch: its literal, and the next watch of that literal's chain
-    lits: Vec<u32>,
-    nexts: Vec<u32>,
+    // by watch
+    links: Vec<Link>,
+    // by clause: where a literal that isn't false was found last
+    spots: Vec<u32>,
 }
 
 impl Watches {
@@ -26,30 +37,58 @@ impl Watches {
         requires { vars < 2 ^ 31 }
     {
         Ok(Watches {
+            base: 0,
             heads: vec![in alloc; END; 2 * vars]?,
-            lits: Vec::new(alloc),
-            nexts: Vec::new(alloc),
+            links: Vec::new(alloc),
+            spots: Vec::new(alloc),
         })
     }
 
-    /// The same chains, with room for the literals of so many variables.
-    pub fn copy(&self, alloc: Global, vars: usize) -> Result<Watches, AllocError>
+    /// The same chains.
+    pub fn copy(&self, alloc: Global) -> Result<Watches, AllocError> {
+        Ok(Watches {
+            base: self.base,
+            heads: Vec::from_slice(alloc, self.heads.as_slice())?,
+            links: Vec::from_slice(alloc, self.links.as_slice())?,
+            spots: Vec::from_slice(alloc, self.spots.as_slice())?,
+        })
+    }
+
+    /// Has room for the literals of so many variables.
+    pub fn widen(&mut self, vars: usize) -> Result<(), AllocError>
         requires { vars < 2 ^ 31 }
     {
-        let mut heads = Vec::from_slice(alloc, self.heads.as_slice())?;
-        for _ in heads.len()..2 * vars {
-            heads.push(END)?;
+        for _ in self.heads.len()..2 * vars {
+            self.heads.push(END)?;
         }
-        Ok(Watches {
-            heads,
-            lits: Vec::from_slice(alloc, self.lits.as_slice())?,
-            nexts: Vec::from_slice(alloc, self.nexts.as_slice())?,
-        })
+        Ok(())
+    }
+
+    // Empties the chains.
+    fn unlink(&mut self) {
+        for link in self.links.iter() {
+            if (link.lit as usize) < self.heads.len() {
+                self.heads[link.lit as usize] = END;
+            }
+        }
+    }
+
+    /// Watches no clause, and then those from this number on.
+    pub fn clear(&mut self, base: usize) {
+        self.unlink();
+        self.base = base;
+        self.links.clear();
+        self.spots.clear();
+    }
+
+    /// The clause of a watch.
+    pub fn clause_of(&self, watch: u32) -> usize {
+        self.base.saturating_add(watch as usize / 2)
     }
 
     /// How many watches there are.
     pub fn len(&self) -> usize {
-        self.lits.len()
+        self.links.len()
     }
 
     /// The first watch of a literal's chain.
@@ -63,8 +102,8 @@ impl Watches {
 
     /// The next watch of the same chain.
     pub fn next(&self, watch: u32) -> u32 {
-        if (watch as usize) < self.nexts.len() {
-            self.nexts[watch as usize]
+        if (watch as usize) < self.links.len() {
+            self.links[watch as usize].next
         } else {
             END
         }
@@ -73,11 +112,34 @@ impl Watches {
     /// The literal of the same clause's other watch.
     pub fn other(&self, watch: u32) -> u32 {
         let twin = (watch ^ 1) as usize;
-        if twin < self.lits.len() {
-            self.lits[twin]
+        if twin < self.links.len() {
+            self.links[twin].lit
         } else {
             END
         }
+    }
+
+    /// Looks in a clause for a literal that doesn't seem false, other than this one, from where one was found last.
+    pub fn glance(
+        &mut self,
+        number: usize,
+        clause: &[u32],
+        other: u32,
+        values: &[Value],
+    ) -> Option<u32> {
+        if number < self.base || number - self.base >= self.spots.len() {
+            return None;
+        }
+        let spot = number - self.base;
+        for place in self.spots[spot] as usize..clause.len() {
+            let lit = clause[place];
+            if lit != other && value_in(values, lit) != Value::False {
+                self.spots[spot] = u32::try_from(place).unwrap_or(0);
+                return Some(lit);
+            }
+        }
+        self.spots[spot] = 0;
+        None
     }
 
     /// Moves a watch from the chain of a literal, in which it comes after `before`, to that of another.
@@ -87,18 +149,17 @@ impl Watches {
             if (from as usize) < self.heads.len() {
                 self.heads[from as usize] = next;
             }
-        } else if (before as usize) < self.nexts.len() {
-            self.nexts[before as usize] = next;
+        } else if (before as usize) < self.links.len() {
+            self.links[before as usize].next = next;
         }
         self.put(watch, to);
     }
 
     // Puts a watch before the chain of a literal.
     fn put(&mut self, watch: u32, lit: u32) {
-        let first = self.first(lit);
-        if (watch as usize) < self.nexts.len() && (watch as usize) < self.lits.len() {
-            self.lits[watch as usize] = lit;
-            self.nexts[watch as usize] = first;
+        let next = self.first(lit);
+        if (watch as usize) < self.links.len() {
+            self.links[watch as usize] = Link { lit, next };
             if (lit as usize) < self.heads.len() {
                 self.heads[lit as usize] = watch;
             }
@@ -107,56 +168,41 @@ impl Watches {
 
     // Puts a watch before the chain of its own literal.
     fn put_again(&mut self, watch: u32) {
-        if (watch as usize) < self.lits.len() {
-            let lit = self.lits[watch as usize];
+        if (watch as usize) < self.links.len() {
+            let lit = self.links[watch as usize].lit;
             self.put(watch, lit);
         }
     }
 
     // Adds a watch.
     fn add(&mut self, lit: u32) -> Result<(), AllocError> {
-        let watch = u32::try_from(self.lits.len()).unwrap_or(END);
-        self.lits.push(lit)?;
-        self.nexts.push(END)?;
+        let watch = u32::try_from(self.links.len()).unwrap_or(END);
+        self.links.push(Link { lit, next: END })?;
         self.put(watch, lit);
         Ok(())
     }
 
     /// Watches the clauses that aren't watched yet.
-    pub fn attach(&mut self, db: &Arena<u32>, trail: &Trail) -> Result<(), AllocError> {
-        for number in self.lits.len() / 2..db.len() {
+    pub fn attach(&mut self, db: &Clauses, trail: &Trail) -> Result<(), AllocError> {
+        for number in self.base.saturating_add(self.spots.len())..db.len() {
             let (first, second) = last_two(db.get(number), &trail.lits, &trail.at);
             self.add(first)?;
             self.add(second)?;
+            self.spots.push(0)?;
         }
         Ok(())
     }
 
-    // Forgets the watches of long learned clauses, but for the newest. The clauses stay.
-    fn forget(&mut self, db: &Arena<u32>, first: usize, newest: usize) {
-        self.heads.fill(END);
-        for watch in 0..self.lits.len() {
-            if stays(db, watch / 2, first, newest) {
-                self.put_again(u32::try_from(watch).unwrap_or(END));
+    /// Forgets the watches of the clauses that aren't to stay. The clauses themselves do.
+    pub fn forget(&mut self, db: &Clauses, uses: &Uses) {
+        self.unlink();
+        for place in 0..self.links.len() {
+            let watch = u32::try_from(place).unwrap_or(END);
+            if uses.keeps(db, self.clause_of(watch)) {
+                self.put_again(watch);
             }
         }
     }
-
-    /// The same at every eighth restart.
-    pub fn forget_at(&mut self, db: &Arena<u32>, first: usize, restarts: u32) {
-        let known = db.len();
-        if restarts % 8 == 0 && known > first {
-            self.forget(db, first, known - (known - first) / 4);
-        }
-    }
-}
-
-// Whether a clause is short, given or new.
-fn stays(db: &Arena<u32>, number: usize, first: usize, newest: usize) -> bool {
-    if number >= db.len() {
-        return false;
-    }
-    number < first || number >= newest || db.get(number).len() <= 5
 }
 
 // The two literals that fall last.

@@ -12,6 +12,55 @@ pub struct Cone {
     lower: Vec<(u32, u32)>,
 }
 
+/// Which variables a question met, and those of them that are still to be lifted.
+#[derive(Drop)]
+pub struct Visits {
+    // by variable: the turn in which it was met
+    met: Vec<u32>,
+    turn: u32,
+    stack: Vec<u32>,
+}
+
+impl Visits {
+    /// None of these variables is met.
+    pub fn new(alloc: Global, vars: usize) -> Result<Visits, AllocError> {
+        Ok(Visits {
+            met: vec![in alloc; 0; vars]?,
+            turn: 0,
+            stack: Vec::new(alloc),
+        })
+    }
+
+    // Forgets what was met.
+    fn clear(&mut self) {
+        self.stack.clear();
+        self.turn = self.turn.wrapping_add(1);
+        if self.turn == 0 {
+            self.met.fill(0);
+            self.turn = 1;
+        }
+    }
+
+    // Meets a variable, from 1 on, for the first time.
+    fn meet(&mut self, var: u32) -> Result<(), AllocError> {
+        let row = (var as usize).saturating_sub(1);
+        if var == 0 || row >= self.met.len() || self.met[row] == self.turn {
+            return Ok(());
+        }
+        self.met[row] = self.turn;
+        self.stack.push(var - 1)?;
+        Ok(())
+    }
+
+    // Meets the variables of a clause.
+    fn meet_all(&mut self, clause: &[u32]) -> Result<(), AllocError> {
+        for lit in clause {
+            self.meet(*lit / 2 + 1)?;
+        }
+        Ok(())
+    }
+}
+
 // What a clause has beside its greatest variable.
 struct Parts {
     top: u32,
@@ -80,59 +129,34 @@ impl Cone {
         }
     }
 
-    /// Has the order begin with the cone of the clauses from this number on.
+    /// Has the order begin with the cone of these clauses.
     pub fn lead(
         &self,
-        alloc: Global,
-        db: &Arena<u32>,
-        from: usize,
+        clauses: &Arena<u32>,
         order: &mut Order,
+        visits: &mut Visits,
     ) -> Result<(), AllocError> {
-        let mut met = vec![in alloc; false; self.lower.len()]?;
-        let mut stack = Vec::new(alloc);
-        for number in from..db.len() {
-            meet_all(db.get(number), &mut met, &mut stack)?;
+        visits.clear();
+        for number in 0..clauses.len() {
+            visits.meet_all(clauses.get(number))?;
         }
-        for _ in 0..met.len() {
-            let Some(var) = stack.pop() else {
+        for _ in 0..self.lower.len() {
+            let Some(var) = visits.stack.pop() else {
                 return Ok(());
             };
             order.lift(var as usize);
-            self.descend(var as usize, &mut met, &mut stack)?;
+            self.descend(var as usize, visits)?;
         }
         Ok(())
     }
 
-    // The two below a variable.
-    fn descend(
-        &self,
-        var: usize,
-        met: &mut Vec<bool>,
-        stack: &mut Vec<u32>,
-    ) -> Result<(), AllocError> {
+    // Meets the two below a variable.
+    fn descend(&self, var: usize, visits: &mut Visits) -> Result<(), AllocError> {
         if var >= self.lower.len() {
             return Ok(());
         }
         let (first, second) = self.lower[var];
-        meet(first, met, stack)?;
-        meet(second, met, stack)
+        visits.meet(first)?;
+        visits.meet(second)
     }
-}
-
-// Meets the variables of a clause.
-fn meet_all(clause: &[u32], met: &mut Vec<bool>, stack: &mut Vec<u32>) -> Result<(), AllocError> {
-    for lit in clause {
-        meet(*lit / 2 + 1, met, stack)?;
-    }
-    Ok(())
-}
-
-// Meets a variable, from 1 on, for the first time.
-fn meet(var: u32, met: &mut Vec<bool>, stack: &mut Vec<u32>) -> Result<(), AllocError> {
-    if var == 0 || var as usize > met.len() || met[var as usize - 1] {
-        return Ok(());
-    }
-    met[var as usize - 1] = true;
-    stack.push(var - 1)?;
-    Ok(())
 }

@@ -9,16 +9,22 @@
 mod analysis;
 mod answer;
 mod chains;
+mod clauses;
 mod cone;
 mod edge;
+mod guide;
 mod hints;
 mod logs;
 mod looking;
 mod ordering;
+mod pace;
 mod ready;
 mod solving;
 mod trail;
+mod uses;
 mod watching;
+mod workspace;
 
 pub use answer::{Answer, solve, solve_with};
 pub use ready::Ready;
+pub use workspace::Workspace;

@@ -6,7 +6,7 @@ ghost use Rattle.sat_core.specs.Derivations.{neg, clause_at, AreWithin};
 ghost use Rattle.sat_core.specs.Trail.{IsPlaced, StandsBelow, IsWrong, IsUnit};
 ghost use Rattle.sat_core.specs.Looking.{IsWorth, IsFound, IsLook, SoFar, IsTrueIn, IsOpenIn};
 
-use cnf_store::Arena;
+use crate::clauses::Clauses;
 
 /// A literal's value.
 #[derive(Drop)]
@@ -77,7 +77,7 @@ pub fn inspect(clause: &[u32], lits: &[u32], at: &[usize]) -> Found
 }
 
 /// Looks at all clauses.
-pub fn look_through(db: &Arena<u32>, lits: &[u32], at: &[usize]) -> Look
+pub fn look_through(db: &Clauses, lits: &[u32], at: &[usize]) -> Look
     requires placed { IsPlaced (length at.now) lits.now at.now }
     requires few { length at.now < 2 ^ 31 }
     requires within { AreWithin (length at.now) db.now }

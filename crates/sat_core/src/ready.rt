@@ -1,15 +1,15 @@
 //! A formula that many questions share: what a search needs of it is made once.
 
 ghost use Rattle.std.specs.Prelude.{◌≡◌, ◌≤◌, ◌<◌, ◌^◌, ◌++◌, IfOk};
-ghost use Rattle.sat_core.specs.Answers.{IsAnswer, joined};
+ghost use Rattle.sat_core.specs.Answers.{IsAnswer, IsDecided, joined};
 ghost use Rattle.sat_core.specs.Derivations.{AreWithin};
 ghost use Rattle.sat_core.specs.Signed.{signed_clauses};
 
 use crate::answer::Answer;
-use crate::cone::Cone;
 use crate::edge::{add_codes, bits_of, log_of};
 use crate::hints::Hints;
-use crate::solving::{Outcome, search};
+use crate::solving::{Decided, Outcome, decide};
+use crate::workspace::{Kept, Workspace};
 use cnf_store::{Arena, Cnf};
 use std::alloc::{AllocError, Global};
 use std::marker::Model;
@@ -20,7 +20,6 @@ pub struct Ready {
     vars: u32,
     codes: Arena<u32>,
     hints: Hints,
-    cone: Cone,
 }
 
 impl Model for Ready {
@@ -44,57 +43,91 @@ impl Ready {
         let mut codes = Arena::new(alloc);
         let mut clause = Vec::new(alloc);
         add_codes(cnf, vars, &mut clause, &mut codes)?;
-        let mut hints = Hints::new(alloc, vars as usize)?;
-        hints.take_in(alloc, vars as usize, &codes, 0)?;
-        let cone = Cone::new(alloc, vars as usize, &codes)?;
-        Ok(Ready {
-            vars,
-            codes,
-            hints,
-            cone,
-        })
+        let hints = Hints::new(alloc, vars as usize, &codes)?;
+        Ok(Ready { vars, codes, hints })
     }
 
-    // Its clauses by codes, then those of the other.
-    fn with_own(&self, alloc: Global, own: &Cnf) -> Result<Arena<u32>, AllocError>
-        requires { self.now.vars ≤ own.now.vars }
-        ensures value { IfOk result (λ db. signed_clauses db ≡ self.now.clauses ++ own.now.clauses) }
-        ensures within { IfOk result (λ db. AreWithin own.now.vars db) }
-    {
-        let mut formula = self.codes.copy(alloc)?;
-        let mut clause = Vec::new(alloc);
-        add_codes(own, own.vars(), &mut clause, &mut formula)?;
-        Ok(formula)
+    // What is kept for questions over it: what is handed in, or new where that is none or of another formula.
+    fn kept(&self, alloc: Global, kept: Option<Kept>) -> Result<Kept, AllocError> {
+        let vars = self.vars as usize;
+        if let Some(old) = kept {
+            if old.guide.serves(vars, &self.hints) {
+                return Ok(old);
+            }
+        }
+        Kept::new(alloc, vars, &self.hints)
     }
 
-    // What a search of both begins with.
-    fn hints_for(
+    // Decides over codes, in the memory of earlier questions.
+    fn decide_in(
         &self,
         alloc: Global,
-        vars: usize,
-        formula: &Arena<u32>,
-    ) -> Result<Hints, AllocError>
-        requires { vars < 2 ^ 31 }
+        work: &mut Workspace,
+        own: &Cnf,
+    ) -> Result<Outcome, AllocError>
+        requires { self.now.vars ≤ own.now.vars }
+        ensures { IfOk result (IsDecided (joined self.now own.now)) }
     {
-        let mut hints = self.hints.copy(alloc, vars)?;
-        hints.take_in(alloc, vars, formula, self.codes.len())?;
-        self.cone
-            .lead(alloc, formula, self.codes.len(), &mut hints.order)?;
-        Ok(hints)
+        let vars = own.vars();
+        let kept = self.kept(alloc, work.kept.take())?;
+        let Kept {
+            own: mut codes,
+            mut clause,
+            learned,
+            trail,
+            mut guide,
+        } = kept.emptied(alloc, vars as usize)?;
+        add_codes(own, vars, &mut clause, &mut codes)?;
+        guide.begin(vars as usize, &self.hints, &codes, self.codes.len())?;
+        let Decided {
+            outcome,
+            learned,
+            trail,
+        } = decide(
+            alloc,
+            vars as usize,
+            &self.codes,
+            &codes,
+            learned,
+            trail,
+            self.hints.units.as_slice(),
+            &mut guide,
+        )?;
+        work.kept = Some(Kept {
+            own: codes,
+            clause,
+            learned,
+            trail,
+            guide,
+        });
+        Ok(outcome)
     }
 
     /// Decides whether some assignment satisfies its clauses and those of another formula, which come after them, over the
-    /// variables of the other.
+    /// variables of the other. It works in the memory of earlier questions: one over the same formula costs what it touches.
+    /// What a workspace was used for before, and how that ended, changes no answer's meaning.
+    pub fn solve_in(
+        &self,
+        alloc: Global,
+        work: &mut Workspace,
+        own: &Cnf,
+    ) -> Result<Answer, AllocError>
+        requires { self.now.vars ≤ own.now.vars }
+        ensures { IfOk result (IsAnswer (joined self.now own.now)) }
+    {
+        let outcome = self.decide_in(alloc, work, own)?;
+        match outcome {
+            Outcome::Sat(row) => Ok(Answer::Sat(bits_of(alloc, &row)?)),
+            Outcome::Unsat(lines) => Ok(Answer::Unsat(log_of(alloc, &lines)?)),
+        }
+    }
+
+    /// The same in memory of its own.
     pub fn solve_with(&self, alloc: Global, own: &Cnf) -> Result<Answer, AllocError>
         requires { self.now.vars ≤ own.now.vars }
         ensures { IfOk result (IsAnswer (joined self.now own.now)) }
     {
-        let vars = own.vars() as usize;
-        let formula = self.with_own(alloc, own)?;
-        let hints = self.hints_for(alloc, vars, &formula)?;
-        match search(alloc, vars, &formula, hints)? {
-            Outcome::Sat(row) => Ok(Answer::Sat(bits_of(alloc, &row)?)),
-            Outcome::Unsat(lines) => Ok(Answer::Unsat(log_of(alloc, &lines)?)),
-        }
+        let mut work = Workspace::new();
+        self.solve_in(alloc, &mut work, own)
     }
 }

@@ -4,24 +4,27 @@ ghost use Rattle.std.specs.Prelude.{◌≡◌, ◌≢◌, ◌≤◌, ◌<◌, �
 ghost use Rattle.std.specs.List.{All, Any, Contains};
 ghost use Rattle.sat_core.specs.Derivations.{neg, clause_at, AreWithin, Follows, MakesTrue};
 ghost use Rattle.sat_core.specs.Trail.{IsPlaced, StandsBelow, IsWrong, IsUnit, AreStarts, IsLearned};
-ghost use Rattle.sat_core.specs.Solving.{Keeps, HasGone, IsOutcome, Standing};
+ghost use Rattle.sat_core.specs.Solving.{Keeps, HasGone, IsOutcome, Standing, IsRowOf};
+ghost use Rattle.sat_core.specs.declared.solving.Outcome.TheVariants.{Unsat};
 ghost use Rattle.sat_core.specs.Rank.{rank};
 
 use crate::analysis::{complement, learn, learn_nothing};
-use crate::chains::Watches;
-use crate::hints::Hints;
+use crate::clauses::{Clauses, Formula};
+use crate::guide::Guide;
 use crate::logs::Line;
 use crate::looking::{Look, look_through};
 use crate::ordering::Order;
+use crate::pace::Pace;
 use crate::trail::Trail;
+use crate::uses::Uses;
 use crate::watching::{propagate, read_units};
 use cnf_store::Arena;
 use std::alloc::{AllocError, Global};
 
 /// What a solver has at hand.
 #[derive(Drop)]
-pub struct Solver {
-    pub db: Arena<u32>,
+pub struct Solver<'f> {
+    pub db: Clauses<'f>,
     pub log: Vec<Line>,
     pub trail: Trail,
 }
@@ -85,7 +88,7 @@ pub fn level_below(starts: &[usize], place: usize) -> usize
 // Adds what a clause implies.
 pub fn add_implied(
     vars: usize,
-    formula: &Arena<u32>,
+    formula: &Formula,
     s: &mut Solver,
     lit: u32,
     clause: u64,
@@ -102,7 +105,7 @@ pub fn add_implied(
 // The same as a step.
 fn go_on(
     vars: usize,
-    formula: &Arena<u32>,
+    formula: &Formula,
     s: &mut Solver,
     lit: u32,
     clause: u64,
@@ -119,7 +122,7 @@ fn go_on(
 // Decides a variable.
 pub fn guess(
     vars: usize,
-    formula: &Arena<u32>,
+    formula: &Formula,
     s: &mut Solver,
     var: usize,
     phase: bool,
@@ -156,7 +159,7 @@ fn release_from(order: &mut Order, trail: &Trail, level: usize) -> Result<(), Al
 // Adds a learned clause, goes back as far as it allows and adds what it implies there.
 fn conclude(
     vars: usize,
-    formula: &Arena<u32>,
+    formula: &Formula,
     s: &mut Solver,
     order: &mut Order,
     level: usize,
@@ -191,7 +194,7 @@ fn conclude(
 fn refute(
     alloc: Global,
     vars: usize,
-    formula: &Arena<u32>,
+    formula: &Formula,
     s: &mut Solver,
     from: usize,
     conflict: u64,
@@ -229,7 +232,7 @@ fn refute(
 pub fn meet(
     alloc: Global,
     vars: usize,
-    formula: &Arena<u32>,
+    formula: &Formula,
     s: &mut Solver,
     order: &mut Order,
     conflict: u64,
@@ -267,7 +270,7 @@ pub fn meet(
 fn meet_at(
     alloc: Global,
     vars: usize,
-    formula: &Arena<u32>,
+    formula: &Formula,
     s: &mut Solver,
     order: &mut Order,
     number: usize,
@@ -286,7 +289,7 @@ fn meet_at(
 pub fn check_all(
     alloc: Global,
     vars: usize,
-    formula: &Arena<u32>,
+    formula: &Formula,
     s: &mut Solver,
     order: &mut Order,
 ) -> Result<Gone, AllocError>
@@ -306,21 +309,20 @@ pub fn check_all(
 fn step(
     alloc: Global,
     vars: usize,
-    formula: &Arena<u32>,
+    formula: &Formula,
     s: &mut Solver,
-    w: &mut Watches,
-    order: &mut Order,
+    guide: &mut Guide,
     from: usize,
 ) -> Result<Gone, AllocError>
     requires few { vars < 2 ^ 31 }
     requires keeps { Keeps vars formula.now s.old }
     ensures { IfOk result (HasGone vars formula.now s.old s.new) }
 {
-    match propagate(vars, formula, s, w, from)? {
-        Some(number) => meet_at(alloc, vars, formula, s, order, number),
-        None => match order.pick(&s.trail.at) {
-            Some(var) => guess(vars, formula, s, var, order.phase_of(var)),
-            None => check_all(alloc, vars, formula, s, order),
+    match propagate(vars, formula, s, guide, from)? {
+        Some(number) => meet_at(alloc, vars, formula, s, &mut guide.order, number),
+        None => match guide.order.pick(&s.trail.at) {
+            Some(var) => guess(vars, formula, s, var, guide.order.phase_of(var)),
+            None => check_all(alloc, vars, formula, s, &mut guide.order),
         },
     }
 }
@@ -328,7 +330,7 @@ fn step(
 // Back to the first level.
 fn restart(
     vars: usize,
-    formula: &Arena<u32>,
+    formula: &Formula,
     s: &mut Solver,
     order: &mut Order,
 ) -> Result<(), AllocError>
@@ -342,8 +344,8 @@ fn restart(
     Ok(())
 }
 
-// Raises the variables of the clauses that the last line rests on.
-fn raise_last(s: &Solver, order: &mut Order) {
+// Raises the clauses that the last line rests on, and their variables.
+fn raise_last(s: &Solver, order: &mut Order, uses: &mut Uses) {
     if s.log.len() == 0 {
         return;
     }
@@ -351,12 +353,25 @@ fn raise_last(s: &Solver, order: &mut Order) {
     for h in &line.hints {
         let number = *h as usize;
         if number > 0 && number <= s.db.len() {
+            uses.raise(number - 1);
             for l in s.db.get(number - 1) {
                 order.raise(*l as usize / 2);
             }
         }
     }
     order.grow();
+}
+
+// Watches the clause that a conflict had learned, and looks no more at those that conflicts use seldom.
+fn take_in(s: &Solver, guide: &mut Guide, uses: &mut Uses) -> Result<(), AllocError> {
+    guide.attach(&s.db, &s.trail)?;
+    raise_last(s, &mut guide.order, uses);
+    uses.add()?;
+    if uses.are_many(s.trail.lits.len()) {
+        uses.choose(&s.db)?;
+        guide.extra.forget(&s.db, uses);
+    }
+    Ok(())
 }
 
 // The trail as a row of bits.
@@ -382,62 +397,110 @@ fn is_set(lits: &[u32], at: &[usize], v: usize) -> bool
     place != 0 && lits[place - 1] % 2 == 0
 }
 
-/// Whether an assignment satisfies all clauses, with one that does or with a derivation of the empty clause.
-pub fn search(
+/// What a search comes to, and the memory of its clauses and trail for the next.
+#[derive(Drop)]
+pub struct Decided {
+    pub outcome: Outcome,
+    pub learned: Arena<u32>,
+    pub trail: Trail,
+}
+
+/// Decides on the shared clauses, the first of which are listed as units, and a question's own, in memory that is empty.
+pub fn decide(
     alloc: Global,
     vars: usize,
-    formula: &Arena<u32>,
-    hints: Hints,
-) -> Result<Outcome, AllocError>
+    shared: &Arena<u32>,
+    own: &Arena<u32>,
+    learned: Arena<u32>,
+    trail: Trail,
+    units: &[u32],
+    guide: &mut Guide,
+) -> Result<Decided, AllocError>
     requires few { vars < 2 ^ 31 }
-    requires within { AreWithin vars formula.now }
-    ensures { IfOk result (IsOutcome vars formula.now) }
+    requires shared { AreWithin vars shared.now }
+    requires own { AreWithin vars own.now }
+    requires learned { learned ≡ [] }
+    requires trail { trail.lits.items ≡ [] }
+    requires size { length trail.at.items ≡ vars }
+    ensures { IfOk result (λ d. IsOutcome vars (shared.now ++ own.now) d.outcome) }
 {
-    let Hints {
-        watches: mut w,
-        mut order,
-        units,
-    } = hints;
-    let mut s = Solver {
-        db: formula.copy(alloc)?,
+    let formula = Formula::new(shared, own)?;
+    let db = Clauses::new(Formula::new(shared, own)?, learned);
+    let start = Solver {
+        db,
         log: Vec::new(alloc),
-        trail: Trail::new(alloc, vars)?,
+        trail,
     };
-    read_units(vars, formula, &mut s, units.as_slice())?;
+    search(alloc, vars, &formula, start, units, guide)
+}
+
+// Whether an assignment satisfies all clauses, with one that does or with a derivation of the empty clause. The first of
+// the clauses have these units.
+fn search(
+    alloc: Global,
+    vars: usize,
+    formula: &Formula,
+    start: Solver,
+    units: &[u32],
+    guide: &mut Guide,
+) -> Result<Decided, AllocError>
+    requires few { vars < 2 ^ 31 }
+    requires keeps { Keeps vars formula.now start }
+    ensures { IfOk result (λ d. IsOutcome vars formula.now d.outcome) }
+{
+    let mut s = start;
+    guide.attach(&s.db, &s.trail)?;
+    read_units(vars, formula, &mut s, units)?;
+    read_units(vars, formula, &mut s, guide.units.as_slice())?;
+    let mut uses = Uses::new(alloc, formula.len());
+    let mut pace = Pace::new();
     let mut restarts: u32 = 0;
     let mut conflicts: u32 = 0;
     let mut from = 0;
     'steps: loop {
-        if conflicts >= pace(restarts) && restarts < 1000 {
+        if conflicts >= pace.conflicts() && restarts < 1000 {
             restarts += 1;
             conflicts = 0;
-            restart(vars, formula, &mut s, &mut order)?;
+            pace.advance();
+            restart(vars, formula, &mut s, &mut guide.order)?;
             from = s.trail.lits.len();
-            w.forget_at(&s.db, formula.len(), restarts);
         } else {
             let known = s.db.len();
-            match step(alloc, vars, formula, &mut s, &mut w, &mut order, from)? {
+            match step(alloc, vars, formula, &mut s, guide, from)? {
                 Gone::On => {}
-                Gone::Refuted => return Ok(Outcome::Unsat(s.log)),
-                Gone::Full => return Ok(Outcome::Sat(row_of(alloc, &s.trail.lits, &s.trail.at)?)),
+                Gone::Refuted => return Ok(refuted(s)),
+                Gone::Full => return Ok(satisfied(alloc, s)?),
             }
             if s.db.len() > known {
                 conflicts = conflicts.saturating_add(1);
-                w.attach(&s.db, &s.trail)?;
-                raise_last(&s, &mut order);
+                take_in(&s, guide, &mut uses)?;
             }
             from = s.trail.lits.len().saturating_sub(1);
         }
     }
 }
 
-// How many conflicts until the next restart.
-fn pace(restarts: u32) -> u32 {
-    match restarts % 8 {
-        7 => 1600,
-        3 => 400,
-        1 => 200,
-        5 => 200,
-        _ => 100,
+// Ends with the log.
+fn refuted(s: Solver) -> Decided
+    ensures { result.outcome ≡ Unsat s.entry.log }
+{
+    let Solver { db, log, trail } = s;
+    Decided {
+        outcome: Outcome::Unsat(log),
+        learned: db.into_learned(),
+        trail,
     }
+}
+
+// Ends with the trail's row.
+fn satisfied(alloc: Global, s: Solver) -> Result<Decided, AllocError>
+    ensures { IfOk result (λ d. IsRowOf s.entry.trail d.outcome) }
+{
+    let Solver { db, trail, .. } = s;
+    let row = row_of(alloc, &trail.lits, &trail.at)?;
+    Ok(Decided {
+        outcome: Outcome::Sat(row),
+        learned: db.into_learned(),
+        trail,
+    })
 }

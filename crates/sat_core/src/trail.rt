@@ -5,6 +5,30 @@ ghost use Rattle.sat_core.specs.Trail.{IsPlaced, AreStarts, StandsBelow, IsLevel
 
 use std::alloc::{AllocError, Global};
 
+/// What a literal seems to be.
+#[derive(Clone, Copy, PartialEq, Eq)]
+pub enum Value {
+    Free,
+    True,
+    False,
+}
+
+/// What a table of values has at a literal.
+pub fn value_in(values: &[Value], lit: u32) -> Value {
+    if (lit as usize) < values.len() {
+        values[lit as usize]
+    } else {
+        Value::Free
+    }
+}
+
+// Writes what a literal seems to be.
+fn set_value(values: &mut [Value], lit: u32, value: Value) {
+    if (lit as usize) < values.len() {
+        values[lit as usize] = value;
+    }
+}
+
 /// What is assigned, from the oldest on.
 #[derive(Drop)]
 pub struct Trail {
@@ -12,6 +36,8 @@ pub struct Trail {
     pub reasons: Vec<u64>,
     pub at: Vec<usize>,
     pub starts: Vec<usize>,
+    /// By literal. No fact rests on it: what is read here decides which clauses to read.
+    pub values: Vec<Value>,
     ghost placed: { IsPlaced (length at.items) lits.items at.items },
     ghost same: { length reasons.items ≡ length lits.items },
     ghost levels: { AreStarts reasons.items starts.items },
@@ -31,11 +57,13 @@ impl Trail {
         let lits = Vec::with_capacity(alloc, vars)?;
         let reasons = Vec::with_capacity(alloc, vars)?;
         let starts = Vec::with_capacity(alloc, vars)?;
+        let values = vec![in alloc; Value::Free; 2 * vars]?;
         Ok(Trail {
             lits,
             reasons,
             at,
             starts,
+            values,
         })
     }
 
@@ -52,6 +80,8 @@ impl Trail {
         self.at[lit as usize / 2] = place + 1;
         self.lits.push_reserved(lit);
         self.reasons.push_reserved(reason);
+        set_value(&mut self.values, lit, Value::True);
+        set_value(&mut self.values, lit ^ 1, Value::False);
     }
 
     /// Opens a level with a literal.
@@ -67,6 +97,8 @@ impl Trail {
         self.lits.push_reserved(lit);
         self.reasons.push_reserved(0);
         self.starts.push_reserved(place);
+        set_value(&mut self.values, lit, Value::True);
+        set_value(&mut self.values, lit ^ 1, Value::False);
     }
 
     /// Takes back all from the start of a level on.
@@ -81,16 +113,36 @@ impl Trail {
             reasons,
             at,
             starts,
+            values,
         } = self;
         let cut = starts[level];
-        unwind(lits, at, cut);
+        unwind(lits, at, values, cut);
         reasons.truncate(cut);
         starts.truncate(level);
     }
 }
 
+impl Trail {
+    /// Takes back all.
+    pub fn clear(&mut self)
+        ensures lits { self.new.lits.items ≡ [] }
+        ensures size { length self.new.at.items ≡ length self.old.at.items }
+    {
+        let Trail {
+            lits,
+            reasons,
+            at,
+            starts,
+            values,
+        } = self;
+        unwind(lits, at, values, 0);
+        reasons.truncate(0);
+        starts.truncate(0);
+    }
+}
+
 // Takes back literals.
-fn unwind(lits: &mut Vec<u32>, at: &mut Vec<usize>, cut: usize)
+fn unwind(lits: &mut Vec<u32>, at: &mut Vec<usize>, values: &mut [Value], cut: usize)
     requires placed { IsPlaced (length at.old.items) lits.old.items at.old.items }
     requires cut { cut ≤ length lits.old.items }
     ensures placed { IsPlaced (length at.old.items) lits.new.items at.new.items }
@@ -100,6 +152,8 @@ fn unwind(lits: &mut Vec<u32>, at: &mut Vec<usize>, cut: usize)
     'back: while lits.len() > cut {
         if let Some(lit) = lits.pop() {
             at[lit as usize / 2] = 0;
+            set_value(values, lit, Value::Free);
+            set_value(values, lit ^ 1, Value::Free);
         }
     }
 }

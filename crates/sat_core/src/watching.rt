@@ -11,9 +11,11 @@ ghost use Rattle.sat_core.specs.declared.watching.Sought.TheVariants.{Rest};
 
 use crate::analysis::complement;
 use crate::chains::{END, Watches};
+use crate::clauses::Formula;
+use crate::guide::Guide;
 use crate::looking::{Found, Worth, inspect, value_of};
 use crate::solving::{Solver, add_implied};
-use cnf_store::Arena;
+use crate::trail::{Value, value_in};
 use std::alloc::AllocError;
 
 /// What a search for a literal that isn't false finds.
@@ -75,16 +77,20 @@ fn sort_out(lit: u32, other: u32, lits: &[u32], at: &[usize]) -> Sought
 // Visits a clause of which a watched literal fell, and the other is this one.
 fn visit(
     vars: usize,
-    formula: &Arena<u32>,
+    formula: &Formula,
     s: &mut Solver,
+    w: &mut Watches,
     other: u32,
     number: usize,
 ) -> Result<Seen, AllocError>
     requires { Keeps vars formula.now s.old }
     ensures { IfOk result (HasSeen vars formula.now s.old s.new number) }
 {
-    if number >= s.db.len() || is_true(s, other) {
+    if number >= s.db.len() || value_in(&s.trail.values, other) == Value::True {
         return Ok(Seen::Stays);
+    }
+    if let Some(found) = w.glance(number, s.db.get(number), other, &s.trail.values) {
+        return Ok(Seen::Moves(found));
     }
     match seek_in(vars, formula, s, other, number) {
         Sought::At(found) => Ok(Seen::Moves(found)),
@@ -93,21 +99,12 @@ fn visit(
 }
 
 // Searches clause `number`.
-fn seek_in(vars: usize, formula: &Arena<u32>, s: &Solver, other: u32, number: usize) -> Sought
+fn seek_in(vars: usize, formula: &Formula, s: &Solver, other: u32, number: usize) -> Sought
     requires keeps { Keeps vars formula.now s.now }
     requires number { number < length s.now.db }
     ensures { IsSought s.now.trail.lits.items (clause_at s.now.db (number + 1)) other result }
 {
     seek(s.db.get(number), other, &s.trail.lits, &s.trail.at)
-}
-
-fn is_true(s: &Solver, lit: u32) -> bool {
-    let var = lit as usize / 2;
-    if var >= s.trail.at.len() {
-        return false;
-    }
-    let place = s.trail.at[var];
-    place != 0 && s.trail.lits[place - 1] == lit
 }
 
 fn is_free(s: &Solver, lit: u32) -> bool
@@ -120,7 +117,7 @@ fn is_free(s: &Solver, lit: u32) -> bool
 // Takes what a clause implies of which all but one literal are false, or that it is false.
 fn settle(
     vars: usize,
-    formula: &Arena<u32>,
+    formula: &Formula,
     s: &mut Solver,
     other: u32,
     has: bool,
@@ -134,9 +131,6 @@ fn settle(
 {
     if has && is_free(s, other) {
         add_implied(vars, formula, s, other, number as u64 + 1)?;
-        return Ok(Seen::Stays);
-    }
-    if has && is_true(s, other) {
         return Ok(Seen::Stays);
     }
     if is_wrong(s, number) {
@@ -162,7 +156,7 @@ fn is_wrong(s: &Solver, number: usize) -> bool
 // Visits the clauses that a fallen literal leads to.
 fn sweep(
     vars: usize,
-    formula: &Arena<u32>,
+    formula: &Formula,
     s: &mut Solver,
     w: &mut Watches,
     fallen: u32,
@@ -177,22 +171,42 @@ fn sweep(
             return Ok(None);
         }
         let next = w.next(watch);
-        match visit(vars, formula, s, w.other(watch), watch as usize / 2)? {
+        let other = w.other(watch);
+        let number = w.clause_of(watch);
+        match visit(vars, formula, s, w, other, number)? {
             Seen::Stays => before = watch,
             Seen::Moves(lit) => w.shift(fallen, before, watch, lit),
-            Seen::Conflict => return Ok(Some(watch as usize / 2)),
+            Seen::Conflict => return Ok(Some(number)),
         }
         watch = next;
     }
     Ok(None)
 }
 
+// The same of all clauses that are watched.
+fn sweep_all(
+    vars: usize,
+    formula: &Formula,
+    s: &mut Solver,
+    guide: &mut Guide,
+    fallen: u32,
+) -> Result<Option<usize>, AllocError>
+    requires { Keeps vars formula.now s.old }
+    ensures { IfOk result (HasSwept vars formula.now s.old s.new) }
+{
+    let found = sweep(vars, formula, s, &mut guide.shared, fallen)?;
+    if found.is_some() {
+        return Ok(found);
+    }
+    sweep(vars, formula, s, &mut guide.extra, fallen)
+}
+
 /// Takes all that follows from this place of the trail on, or finds a clause that is false.
 pub fn propagate(
     vars: usize,
-    formula: &Arena<u32>,
+    formula: &Formula,
     s: &mut Solver,
-    w: &mut Watches,
+    guide: &mut Guide,
     from: usize,
 ) -> Result<Option<usize>, AllocError>
     requires { Keeps vars formula.now s.old }
@@ -202,7 +216,7 @@ pub fn propagate(
     'queue: while head < s.trail.lits.len() {
         let lit = s.trail.lits[head];
         head += 1;
-        let found = sweep(vars, formula, s, w, complement(lit))?;
+        let found = sweep_all(vars, formula, s, guide, complement(lit))?;
         if found.is_some() {
             return Ok(found);
         }
@@ -213,7 +227,7 @@ pub fn propagate(
 /// Reads these clauses, counted from 0, and takes what is implied.
 pub fn read_units(
     vars: usize,
-    formula: &Arena<u32>,
+    formula: &Formula,
     s: &mut Solver,
     units: &[u32],
 ) -> Result<(), AllocError>
@@ -232,7 +246,7 @@ pub fn read_units(
     Ok(())
 }
 
-fn inspect_in(vars: usize, formula: &Arena<u32>, s: &Solver, number: usize) -> Found
+fn inspect_in(vars: usize, formula: &Formula, s: &Solver, number: usize) -> Found
     requires keeps { Keeps vars formula.now s.now }
     requires number { number < length s.now.db }
     ensures { IsFound s.now.trail.lits.items s.now.trail.at.items (clause_at s.now.db (number + 1)) result }

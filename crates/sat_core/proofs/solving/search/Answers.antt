@@ -1,8 +1,9 @@
-use Rattle.std.proofs.Common.{arith, ◌≡◌, ◌<◌, ◌+◌, ◌-◌, ◌*◌, ◌^◌, ℕ, Bool, List, length, ◌∙◌, ap, subst}
+use Rattle.std.proofs.Common.{arith, ◌≡◌, ◌<◌, ◌+◌, ◌-◌, ◌*◌, ◌^◌, ℕ, List, length, ◌∙◌, ap, sym, subst}
 use Rattle.sat_core.specs.declared.solving.Gone.{Gone}
-use Rattle.sat_core.specs.Derivations.{MakesTrue}
-use Rattle.sat_core.specs.Trail.{StandsBelow}
-use Rattle.sat_core.specs.Solving.{HasGone}
+use Rattle.sat_core.specs.declared.trail.Trail.{Trail}
+use Rattle.sat_core.specs.declared.solving.Outcome.{Outcome}
+use Rattle.sat_core.specs.declared.solving.Outcome.TheVariants.{Sat, Unsat}
+use Rattle.sat_core.specs.Solving.{HasGone, IsOutcome, IsRowOf, Standing}
 use Rattle.sat_core.specs.Rank.{rank}
 use Rattle.sat_core.proofs.Ranks.{rank_below}
 use Rattle.sat_core.proofs.Deriving.{accepted_none}
@@ -33,13 +34,14 @@ steps-smaller-then-restarts-lt1000 c =
 pub returns-in-Refuted : goal.returns-in-Refuted
 returns-in-Refuted c =
     let h = subst (λ (g : Gone). HasGone c.args.vars c.args.formula.now c.steps.s c.step.new.s g) c.in-Refuted.is c.in_ok-step.ensures in
-    (h, λ row sat. accepted_none c.args.vars c.args.formula.now c.step.new.s.log.items h row sat)
+    subst (IsOutcome c.args.vars c.args.formula.now) (sym c.refuted.ensures) (h, λ row sat. accepted_none c.args.vars c.args.formula.now c.step.new.s.log.items h row sat)
+
+-- the row of a trail on which every clause stands
+row_outcome : (vars : ℕ) (formula : List (List ℕ)) (trail : Trail) (o : Outcome) → length trail.at.items ≡ vars → Standing trail.lits.items formula → IsRowOf trail o → IsOutcome vars formula o
+row_outcome vars formula trail (Sat row) size all r = (r.0 ∙ size, standing_satisfies trail.lits.items row.items formula r.1 all)
+row_outcome vars formula trail (Unsat log) size all r = absurd r
 
 pub returns-in-Full : goal.returns-in-Full
 returns-in-Full c =
     let h = subst (λ (g : Gone). HasGone c.args.vars c.args.formula.now c.steps.s c.step.new.s g) c.in-Full.is c.in_ok-step.ensures in
-    let t = c.step.new.s.trail in
-    let e = c.in_ok-row_of-in-Full.ensures in
-    let row : List Bool = c.in_ok-row_of-in-Full.field-0.items in
-    let trues = subst (λ (xs : List ℕ). (l : ℕ) → StandsBelow xs (length xs) l → MakesTrue row l) c.deref.ensures.value e.trues in
-    (e.size ∙ ap (λ (xs : List ℕ). length xs) c.deref-in-Full.ensures.value ∙ h.1, standing_satisfies t.lits.items row c.args.formula.now trues h.0)
+    row_outcome c.args.vars c.args.formula.now c.step.new.s.trail c.in_ok-satisfied-in-Full.field-0.outcome h.1 h.0 c.in_ok-satisfied-in-Full.ensures
