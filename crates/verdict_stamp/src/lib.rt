@@ -13,7 +13,7 @@ mod verdict;
 mod version;
 mod versions;
 
-pub use prover::{Proof, Prover};
+pub use prover::{Proof, Prover, Workspaces};
 pub use refine::greatest_classes;
 pub use vector::Vector;
 pub use verdict::Verdict;

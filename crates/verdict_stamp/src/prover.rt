@@ -13,7 +13,7 @@ use crate::version::Version;
 use bit_rows::BitRow;
 use circ_model::Lit;
 use class_partition::{Classes, Needed};
-use frame_unroll::{Found, Prepared};
+use frame_unroll::{Found, Prepared, Workspace};
 use std::alloc::{AllocError, Global};
 use std::marker::Model;
 
@@ -24,6 +24,23 @@ pub enum Proof<'v, 'p> {
     Holds(Verdict<'v, 'p>),
     /// It doesn't: this vector separates it.
     Splits(Vector<'p>),
+}
+
+/// The solver's memory for the questions of one proof after another.
+#[derive(Drop)]
+pub struct Workspaces {
+    base: Workspace,
+    step: Workspace,
+}
+
+impl Workspaces {
+    /// Nothing is kept yet.
+    pub fn new() -> Workspaces {
+        Workspaces {
+            base: Workspace::new(),
+            step: Workspace::new(),
+        }
+    }
 }
 
 /// A version with the frames of its questions. The version is lent: by a list of published ones, so that workers share it.
@@ -83,7 +100,12 @@ impl<'v, 'p> Prover<'v, 'p> {
     }
 
     // Whether a run has the pair apart in one of its first k frames.
-    fn ask_base(&self, alloc: Global, pair: Needed) -> Result<Found, AllocError>
+    fn ask_base(
+        &self,
+        alloc: Global,
+        work: &mut Workspace,
+        pair: Needed,
+    ) -> Result<Found, AllocError>
         requires place { pair.member < places_of self.now.pair }
         requires rep { pair.rep ≡ least_of self.now.classes pair.member }
         ensures { IfOk result (IsFound (base_of self.now) (base_question self.now pair.member)) }
@@ -91,11 +113,16 @@ impl<'v, 'p> Prover<'v, 'p> {
         let version = self.current;
         let _places = version.product().len();
         let (a, b) = literals_of(version.classes(), pair);
-        self.base.find(alloc, a, b, 0, version.k() - 1)
+        self.base.find_in(alloc, work, a, b, 0, version.k() - 1)
     }
 
     // Whether a path has it apart after k frames in which the classes hold.
-    fn ask_step(&self, alloc: Global, pair: Needed) -> Result<Found, AllocError>
+    fn ask_step(
+        &self,
+        alloc: Global,
+        work: &mut Workspace,
+        pair: Needed,
+    ) -> Result<Found, AllocError>
         requires place { pair.member < places_of self.now.pair }
         requires rep { pair.rep ≡ least_of self.now.classes pair.member }
         ensures { IfOk result (IsFound (step_of self.now) (step_question self.now pair.member)) }
@@ -103,12 +130,18 @@ impl<'v, 'p> Prover<'v, 'p> {
         let version = self.current;
         let _places = version.product().len();
         let (a, b) = literals_of(version.classes(), pair);
-        self.step.find(alloc, a, b, version.k(), version.k())
+        self.step
+            .find_in(alloc, work, a, b, version.k(), version.k())
     }
 
     /// Proves a needed pair: it holds exactly where it passes, in the first k frames of every run and after k frames in
-    /// which the classes hold; else a vector separates it.
-    pub fn prove(&self, alloc: Global, pair: Needed) -> Result<Proof<'v, 'p>, AllocError>
+    /// which the classes hold; else a vector separates it. It works in the memory of earlier proofs, of any version.
+    pub fn prove_in(
+        &self,
+        alloc: Global,
+        work: &mut Workspaces,
+        pair: Needed,
+    ) -> Result<Proof<'v, 'p>, AllocError>
         requires needed { IsNeeded (places_of self.now.pair) self.now.classes pair.member }
         requires rep { pair.rep ≡ least_of self.now.classes pair.member }
         ensures { IfOk result (IsProof self.now pair.member) }
@@ -116,14 +149,28 @@ impl<'v, 'p> Prover<'v, 'p> {
         let version = self.version();
         let product = version.product();
         let k = version.k();
-        match self.ask_base(alloc, pair)? {
+        let Workspaces {
+            base: resets,
+            step: steps,
+        } = work;
+        match self.ask_base(alloc, resets, pair)? {
             Found::Path(seen) => Ok(Proof::Splits(Vector::of(product, k, seen.bits))),
-            Found::None(base) => match self.ask_step(alloc, pair)? {
+            Found::None(base) => match self.ask_step(alloc, steps, pair)? {
                 Found::Path(seen) => Ok(Proof::Splits(Vector::of(product, k, seen.bits))),
                 Found::None(step) => {
                     Ok(Proof::Holds(Verdict::of(version, pair.member, base, step)))
                 }
             },
         }
+    }
+
+    /// The same in memory of its own.
+    pub fn prove(&self, alloc: Global, pair: Needed) -> Result<Proof<'v, 'p>, AllocError>
+        requires needed { IsNeeded (places_of self.now.pair) self.now.classes pair.member }
+        requires rep { pair.rep ≡ least_of self.now.classes pair.member }
+        ensures { IfOk result (IsProof self.now pair.member) }
+    {
+        let mut work = Workspaces::new();
+        self.prove_in(alloc, &mut work, pair)
     }
 }

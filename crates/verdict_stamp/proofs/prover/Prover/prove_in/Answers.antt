@@ -2,7 +2,7 @@ use Rattle.std.proofs.Common.{◌∙◌, sym, ap, subst}
 use Rattle.circ_model.specs.Meaning.{places_of}
 use Rattle.verdict_stamp.specs.Versions.{Standing, IsPassed}
 use Rattle.verdict_stamp.proofs.Proving.{base_found, step_found, splits, passed, version_is, may_by}
-use Rattle.verdict_stamp.proofs.prover.Prover.prove.Goals as goal
+use Rattle.verdict_stamp.proofs.prover.Prover.prove_in.Goals as goal
 
 pub of-requires-clause-size : goal.of-requires-clause-size
 of-requires-clause-size c =
