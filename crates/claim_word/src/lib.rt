@@ -5,6 +5,8 @@
 
 mod claim;
 mod seat;
+#[cfg(test)]
+mod tests;
 mod view;
 mod word;
 
