@@ -140,6 +140,26 @@ kept_join word views p v o w at there kept =
       );
     }
 
+-- a seat with the lists of two, made two again
+pub kept_cut : (word : ℕ) (views : List View) (p : ℕ) (left right : View) → get_elem? views p ≡ some (joined left right) → right.board ≡ false → IsKept word views → IsKept word (set views p left ++ right ∷ [])
+kept_cut word views p left right at beside kept =
+    let same : (c : ℕ × ℕ) → claimed c (set views p left ++ right ∷ []) ≡ claimed c views = λ c.
+    let s = claimed-set c views p (joined left right) left at in
+    let t = claimed-push c (set views p left) right in
+    let a = times-append c left.claims right.claims in omega arith in
+    record {
+      fine = kept.fine;
+      below = λ c past. same c ∙ kept.below c past;
+      apart = λ c. let s = same c in let a = kept.apart c in omega arith;
+      board = (
+        kept.board.0,
+        λ q u e is. ⊎_elim
+            (λ (h : get_elem? (set views p left) q ≡ some u). board_set kept.board.0 word views p left kept.board.1 (λ b. kept.board.1 p (joined left right) at b) q u h is)
+            (λ (h : right ≡ u). absurd (true≢false (sym is ∙ sym (ap (λ (x : View). x.board) h) ∙ beside)))
+            (at_snoc (set views p left) right u q e),
+      );
+    }
+
 -- a new word has no claim
 pub kept_new : (word : ℕ) → index_of word ≡ 0 → IsKept word (opening_view word ∷ [])
 kept_new word zeroed = record {

@@ -1,13 +1,13 @@
 -- What each call on the table owes: the rule holds after its step, whatever the word and the views were.
-use Rattle.std.proofs.Common.{◌≡◌, ℕ, ◌+◌, ◌<◌, ◌==◌, List, [], ◌∷◌, Bool, true, false, length, set, refl, sym, subst, arith, eqb-true, length-set}
+use Rattle.std.proofs.Common.{◌≡◌, ℕ, ◌+◌, ◌<◌, ◌==◌, List, [], ◌∷◌, Bool, true, false, length, set, refl, sym, ap, ◌∙◌, subst, arith, eqb-true, length-set}
 use Rattle.std.specs.Prelude.{slice_index}
-use mathlib.Core.Option.{none}
+use mathlib.Core.Option.{none, some}
 use prog.Atomic.{either}
 use Rattle.atomic_table.specs.Table.{State, Me, Act, keeps, Valid, step, stepped, carried_after, Allows, Splits, Joins}
 use Rattle.claim_word.specs.declared.view.View.{View}
 use Rattle.claim_word.specs.Words.{version_of, pairs_of, index_of, next_claim}
 use Rattle.claim_word.specs.Steps.{IsKept, Holds, nobody, opening_view, with_seen, with_claim, advanced, joined, Looked, Checked, After, Tried, Advanced}
-use Rattle.claim_word.proofs.Kept.{agrees, kept_same, kept_claim, kept_advance, kept_split, kept_join, kept_new}
+use Rattle.claim_word.proofs.Kept.{agrees, kept_same, kept_claim, kept_advance, kept_split, kept_join, kept_cut, kept_new}
 
 abbrev Rule : State ℕ View → Type 0
 Rule s = Holds s.words s.views
@@ -58,3 +58,6 @@ splits p v s holds at = (holds.0, kept_split (slice_index s.words 0) s.views p v
 
 pub joins : (p : ℕ) (v : View) (o : ℕ) (w : View) → Joins Rule p v o w (joined v w) nobody
 joins p v o w s holds at apart there = (holds.0, kept_join (slice_index s.words 0) s.views p v o w at there holds.1)
+
+pub cuts : (p : ℕ) (v left right : View) → v ≡ joined left right → right.board ≡ false → Splits Rule p v left right
+cuts p v left right is beside s holds at = (holds.0, kept_cut (slice_index s.words 0) s.views p left right (at ∙ ap some is) beside holds.1)

@@ -83,3 +83,7 @@ Advanced s me found after = after ≡ (advanced me.0 s.first, me.1)
 
 abbrev pub seat_state : TableId → View → SeatState
 seat_state word v = record { word = word; claims = v.claims; seen = v.seen; board = v.board; written = v.written }
+
+-- the view of a seat, as the rule has it
+abbrev pub view_of : SeatState → View
+view_of s = record { claims = s.claims; seen = s.seen; board = s.board; written = s.written }

@@ -4,6 +4,7 @@
 #![tactic(auto)]
 
 mod claim;
+mod differ;
 mod seat;
 #[cfg(test)]
 mod tests;

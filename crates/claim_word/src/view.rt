@@ -1,6 +1,7 @@
 //! What a seat knows, and what each step on the word adds to it.
 use atomic_table::{Join, Play, Split, TableRule};
 use std::collections::LinkedList;
+use std::marker::{Brand, PhantomData};
 
 /// A seat's claims, the words that it was shown, whether it is the board's, and the word that it last wrote. No value of it is made.
 pub struct View {
@@ -74,4 +75,32 @@ impl Join<View> for Beside {
     ghost both = { joined };
 
     ghost spent = { nobody };
+}
+
+/// The views of two seats.
+pub trait Halves {
+    ghost use Rattle.claim_word.specs.declared.view.View.{View};
+
+    ghost left: { View };
+
+    ghost right: { View };
+}
+
+impl Halves for Brand {
+    ghost use Rattle.claim_word.specs.Steps.{nobody};
+
+    ghost left = { nobody };
+
+    ghost right = { nobody };
+}
+
+/// A seat that has the lists of two, made two again.
+pub(crate) struct Cut<H: Halves> {
+    of: PhantomData<H>,
+}
+
+impl<H: Halves> Split<View> for Cut<H> {
+    ghost left = { λ _. H.left };
+
+    ghost right = { λ _. H.right };
 }

@@ -18,7 +18,7 @@ const PAIR: u64 = 2_097_152;
 /// A word that threads claim pairs from. Contracts see which word it is.
 #[derive(Drop)]
 pub struct ClaimWord {
-    table: Table<u64, View, u64, Apart, Global>,
+    pub(crate) table: Table<u64, View, u64, Apart, Global>,
 }
 
 impl Model for ClaimWord {
