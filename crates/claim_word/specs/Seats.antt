@@ -1,6 +1,6 @@
 -- What a seat has, as callers see it, and what each call tells of it.
 use Rattle.std.specs.Prelude.{◌≡◌, ◌≢◌, ℕ, ◌<◌, ◌≤◌, List, [], ◌∷◌, ◌++◌, Bool, true, false, Some, slice_get}
-use Rattle.std.specs.List.{All}
+use Rattle.std.specs.List.{All, Contains}
 use Rattle.atomic_table.specs.Seated.{TableId}
 use Rattle.claim_word.specs.Words.{word_of, version_of, pairs_of, index_of, next_claim, IsBefore, IsSince}
 use Rattle.claim_word.specs.declared.claim.Claim.{Claim}
@@ -30,9 +30,17 @@ both s t = record s { claims = s.claims ++ t.claims; seen = s.seen ++ t.seen }
 abbrev pub with_seen : SeatState → ℕ → SeatState
 with_seen s word = record s { seen = s.seen ++ word ∷ [] }
 
+-- what only the board's steps change
+abbrev pub IsSameSeat : SeatState → SeatState → Type 0
+IsSameSeat before after = (after.word ≡ before.word) × (after.board ≡ before.board) × (after.written ≡ before.written)
+
 -- no claim stands at two places
 abbrev pub AreApart : List (ℕ × ℕ) → Type 0
 AreApart claims = (i j : ℕ) (c : ℕ × ℕ) → slice_get claims i ≡ Some c → slice_get claims j ≡ Some c → i ≡ j
+
+-- no claim is in both lists
+abbrev pub HaveNoneInCommon : List (ℕ × ℕ) → List (ℕ × ℕ) → Type 0
+HaveNoneInCommon xs ys = (c : ℕ × ℕ) → Contains xs c → Contains ys c → ⊥
 
 -- the seat's claims differ and are below the word, and at the board's seat the word comes from the one that it wrote
 pub record IsSound (s : SeatState) (word : ℕ) : Type 0 where

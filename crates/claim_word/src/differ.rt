@@ -1,6 +1,6 @@
 //! Two seats that are at hand have no claim in common: their lists are joined, looked at, and made two again.
 ghost use Rattle.std.specs.Prelude.{◌≡◌, ◌++◌, false};
-ghost use Rattle.claim_word.specs.Seats.{AreApart, both};
+ghost use Rattle.claim_word.specs.Seats.{AreApart, HaveNoneInCommon, both};
 ghost use Rattle.claim_word.specs.Steps.{seat_state};
 
 use crate::seat::Seat;
@@ -45,6 +45,7 @@ impl ClaimWord {
         requires beside { second.old.board ≡ false }
         ensures first { first.new ≡ first.old }
         ensures second { second.new ≡ second.old }
+        ensures differ { HaveNoneInCommon first.old.claims second.old.claims }
         ensures apart { AreApart (first.old.claims ++ second.old.claims) }
     {
         self.differ_as::<Brand>(first, second);

@@ -1,6 +1,6 @@
 //! The words of one seat in turn, and the claims of four threads.
-ghost use Rattle.std.specs.Prelude.{◌≡◌, IfOk, false};
-ghost use Rattle.claim_word.specs.Seats.{AreApart, beside};
+ghost use Rattle.std.specs.Prelude.{◌≡◌, ◌≢◌, IfOk, IfSome, false};
+ghost use Rattle.claim_word.specs.Seats.{AreApart, IsSameSeat, beside};
 
 use crate::{Claim, ClaimWord, Seat};
 use std::alloc::{AllocError, Global};
@@ -31,6 +31,40 @@ fn a_split_seat_claims_on_and_comes_back(rt: HostRuntime) -> Result<(), Fail> {
     word.join_seat(&mut seat, other);
     assert!(rt; word.seen(&mut seat) == 3 * 2_097_152 + 2);
     assert!(rt; word.claim(&mut seat) == Claim::Mine(0, 2));
+    Ok(())
+}
+
+// Claims twice, and says what the two seats got. The pairs differ.
+fn claim_by_each(
+    word: &ClaimWord,
+    first: &mut Seat,
+    second: &mut Seat,
+) -> Option<((u32, u32), (u32, u32))>
+    requires first { first.old.word ≡ word.now }
+    requires second { second.old.word ≡ word.now }
+    requires beside { second.old.board ≡ false }
+    ensures differ { IfSome result (λ r. r.0 ≢ r.1) }
+    ensures seats { IsSameSeat first.old first.new × IsSameSeat second.old second.new }
+{
+    let Claim::Mine(version, index) = word.claim(first) else {
+        return None;
+    };
+    let Claim::Mine(other_version, other_index) = word.claim(second) else {
+        return None;
+    };
+    word.differ(first, second);
+    Some(((version, index), (other_version, other_index)))
+}
+
+#[test]
+fn two_seats_claim_two_pairs(rt: HostRuntime) -> Result<(), Fail> {
+    let (word, mut board) = ClaimWord::new(rt.alloc(), 3)?;
+    let mut other = word.split_seat(&mut board);
+    assert!(rt; claim_by_each(&word, &mut board, &mut other) == Some(((0, 0), (0, 1))));
+    word.advance(&mut board, 1, 2);
+    assert!(rt; claim_by_each(&word, &mut board, &mut other) == Some(((1, 0), (1, 1))));
+    assert!(rt; claim_by_each(&word, &mut board, &mut other).is_none());
+    assert!(rt; word.seen(&mut other) == 4_398_046_511_104 + 2 * 2_097_152 + 2);
     Ok(())
 }
 

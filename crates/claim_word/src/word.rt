@@ -1,7 +1,7 @@
 //! The shared word: the version from 2^42 on, the number of its pairs from 2^21 on, and below it the index of the next pair.
 ghost use Rattle.std.specs.Prelude.{◌≡◌, ◌<◌, ◌^◌, true, false, IfOk};
 ghost use Rattle.claim_word.specs.Words.{word_of, version_of, index_of, pairs_of};
-ghost use Rattle.claim_word.specs.Seats.{AreApart, IsAnswered, IsSound, beside, both, opening_seat, with_seen};
+ghost use Rattle.claim_word.specs.Seats.{AreApart, IsAnswered, IsSameSeat, IsSound, beside, both, opening_seat, with_seen};
 
 use crate::claim::Claim;
 use crate::seat::Seat;
@@ -81,7 +81,8 @@ impl ClaimWord {
     /// Claims the next pair of the version that it reads, or says why it did not.
     pub fn claim(&self, seat: &mut Seat) -> Claim
         requires own { seat.old.word ≡ self.now }
-        ensures { IsAnswered seat.old seat.new result }
+        ensures answer { IsAnswered seat.old seat.new result }
+        ensures seat { IsSameSeat seat.old seat.new }
     {
         let word = self.seen(seat);
         let version = (word / VERSION) as u32;
