@@ -8,6 +8,7 @@ use Rattle.claim_word.specs.Words.{version_of, pairs_of, index_of, next_claim, I
 use Rattle.claim_word.specs.Seats.{SeatState}
 use Rattle.claim_word.specs.declared.view.View.{View}
 
+-- whether two claims are one
 abbrev pub is_same : ℕ × ℕ → ℕ × ℕ → Bool
 is_same c d = (c.0 == d.0) && (c.1 == d.1)
 
@@ -32,6 +33,7 @@ pub record IsKept (word : ℕ) (views : List View) : Type 0 where
   pub apart : (c : ℕ × ℕ) → claimed c views ≤ 1
   pub board : (place : ℕ) × ((p : ℕ) (v : View) → get_elem? views p ≡ some v → v.board ≡ true → (p ≡ place) × IsSince v.written word)
 
+-- the rule of a table whose first word is the claims'
 abbrev pub Holds : List ℕ → List View → Type 0
 Holds words views = (0 < length words) × IsKept (slice_index words 0) views
 
@@ -43,6 +45,7 @@ opening_view word = record { claims = []; seen = []; board = true; written = wor
 abbrev pub nobody : View
 nobody = record { claims = []; seen = []; board = false; written = 0 }
 
+-- the view after each step
 abbrev pub with_seen : View → ℕ → View
 with_seen v word = record v { seen = v.seen ++ word ∷ [] }
 
@@ -81,9 +84,10 @@ Tried s me found after = After (found == s.first) s.first me found after
 abbrev pub Advanced : Step ℕ → Me ℕ View → ℕ → Me ℕ View → Type 0
 Advanced s me found after = after ≡ (advanced me.0 s.first, me.1)
 
+-- a seat as callers see it
 abbrev pub seat_state : TableId → View → SeatState
 seat_state word v = record { word = word; claims = v.claims; seen = v.seen; board = v.board; written = v.written }
 
--- the view of a seat, as the rule has it
+-- and its view
 abbrev pub view_of : SeatState → View
 view_of s = record { claims = s.claims; seen = s.seen; board = s.board; written = s.written }

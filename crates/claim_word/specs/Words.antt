@@ -1,18 +1,18 @@
 -- The word of claims, as a number: version, pairs and index lie side by side.
-use Rattle.std.specs.Prelude.{◌≡◌, ◌⊎◌, ℕ, ◌+◌, ◌*◌, ◌/◌, ◌%◌, ◌<◌, ◌≤◌}
+use Rattle.std.specs.Prelude.{◌≡◌, ◌⊎◌, ℕ, ◌+◌, ◌*◌, ◌/◌, ◌%◌, ◌^◌, ◌<◌, ◌≤◌}
 
 -- the word of a version, the number of its pairs, and the index of the next
 abbrev pub word_of : ℕ → ℕ → ℕ → ℕ
-word_of version pairs index = version * 4398046511104 + pairs * 2097152 + index
+word_of version pairs index = version * 2 ^ 42 + pairs * 2 ^ 21 + index
 
 abbrev pub version_of : ℕ → ℕ
-version_of word = word / 4398046511104
+version_of word = word / 2 ^ 42
 
 abbrev pub pairs_of : ℕ → ℕ
-pairs_of word = word / 2097152 % 2097152
+pairs_of word = word / 2 ^ 21 % 2 ^ 21
 
 abbrev pub index_of : ℕ → ℕ
-index_of word = word % 2097152
+index_of word = word % 2 ^ 21
 
 -- the claim that the word offers next: a version, and an index of it
 abbrev pub next_claim : ℕ → ℕ × ℕ

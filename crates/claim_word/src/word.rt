@@ -11,9 +11,9 @@ use std::alloc::{AllocError, Global};
 use std::marker::Model;
 
 // What one version, and one pair, counts in the word.
-const VERSION: u64 = 4_398_046_511_104;
+const VERSION: u64 = 1 << 42;
 
-const PAIR: u64 = 2_097_152;
+const PAIR: u64 = 1 << 21;
 
 /// A word that threads claim pairs from. Contracts see which word it is.
 #[derive(Drop)]
