@@ -1,5 +1,6 @@
-//! The words of one seat in turn, and the claims of four threads.
-ghost use Rattle.std.specs.Prelude.{◌≡◌, ◌≢◌, IfOk, IfSome, false};
+//! The answers to one seat in turn, and the claims of threads, which differ.
+ghost use Rattle.std.specs.Prelude.{◌≡◌, ◌≢◌, IfOk, IfSome, false, true};
+ghost use Rattle.claim_word.specs.Words.{version_of};
 ghost use Rattle.claim_word.specs.Seats.{AreApart, IsSameSeat, beside};
 
 use crate::{Claim, ClaimWord, Seat};
@@ -70,7 +71,7 @@ fn two_seats_claim_two_pairs(rt: HostRuntime) -> Result<(), Fail> {
 
 const PAIRS: u32 = 2000;
 
-// Claims until the version is spent.
+// Claims until a version is spent.
 fn claim_all(
     alloc: Global,
     word: &ClaimWord,
@@ -150,5 +151,38 @@ fn four_threads_claim_each_pair_once(rt: HostRuntime) -> Result<(), Fail> {
         assert!(rt; *claim == (0, index));
     }
     assert!(rt; word.claim(&mut seat) == Claim::Spent(0));
+    Ok(())
+}
+
+#[test]
+fn a_version_begins_while_two_threads_claim(rt: HostRuntime) -> Result<(), Fail> {
+    let alloc = rt.alloc();
+    let (word, mut board) = ClaimWord::new(alloc, PAIRS)?;
+    let first = word.split_seat(&mut board);
+    let second = word.split_seat(&mut board);
+    let third = word.split_seat(&mut board);
+    let handle = &rt;
+    let shared = &word;
+    let (claimed, ()) = join(
+        handle,
+        move || -> Result<(Vec<(u32, u32)>, Seat), AllocError>
+            requires { (first ≡ beside shared.now) × (second ≡ beside shared.now) }
+        { claim_both(handle, alloc, shared, first, second) },
+        move ||
+            requires { (board.word ≡ shared.now) × (board.board ≡ true) × (version_of board.written ≡ 0) }
+        {
+            let mut board = board;
+            shared.advance(&mut board, 1, PAIRS);
+        },
+    );
+    let (mut claims, _) = claimed?;
+    let (left, _) = claim_all(alloc, &word, third)?;
+    claims.extend_from_slice(left.as_slice())?;
+    claims.sort()?;
+    let begun = claims.iter().filter(|claim| claim.0 == 1).count();
+    assert!(rt; begun == PAIRS as usize);
+    for pair in claims.as_slice().windows(2) {
+        assert!(rt; pair[0] < pair[1]);
+    }
     Ok(())
 }
