@@ -21,6 +21,7 @@ same_or_not c d = by_first (c.0 == d.0) (c.1 == d.1) refl refl
     by_first true false e f = inr (rw (e, f) refl, λ h. true≢false (sym (eq-eqb c.1 d.1 (ap (λ (p : ℕ × ℕ). p.1) h)) ∙ f))
     by_first false b e f = inr (rw e refl, λ h. true≢false (sym (eq-eqb c.0 d.0 (ap (λ (p : ℕ × ℕ). p.0) h)) ∙ e))
 
+-- a value that is there is one
 pub same_some : (c d : ℕ × ℕ) → Some c ≡ Some d → c ≡ d
 same_some c d e = cc
 
@@ -39,6 +40,7 @@ claimed-set c [] p v w at = absurd (some-ne-none v (sym at))
 claimed-set c (u ∷ views) zero v w at = let e : times c u.claims ≡ times c v.claims = ap (λ (x : View). times c x.claims) (some-injective u v at) in omega arith
 claimed-set c (u ∷ views) (suc p) v w at = let h = claimed-set c views p v w at in omega arith
 
+-- and with one view more
 pub claimed-push : (c : ℕ × ℕ) (views : List View) (w : View) → claimed c (views ++ w ∷ []) ≡ claimed c views + times c w.claims
 claimed-push c [] w = omega arith
 claimed-push c (u ∷ views) w = let h = claimed-push c views w in omega arith

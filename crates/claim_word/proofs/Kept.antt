@@ -1,11 +1,11 @@
 -- Each step keeps the rule of the word.
-use Rattle.std.proofs.Common.{◌≡◌, ◌≢◌, ℕ, zero, suc, ◌+◌, ◌<◌, ◌≤◌, List, [], ◌∷◌, ◌++◌, true, false, true≢false, set, refl, sym, ap, ◌∙◌, subst, inl, inr, ⊎_elim, arith, if◌then◌else◌}
-use mathlib.Core.Option.{some, some-injective, some-ne-none}
+use Rattle.std.proofs.Common.{◌≡◌, ◌≢◌, ℕ, ◌+◌, ◌<◌, ◌≤◌, List, [], ◌∷◌, ◌++◌, true, false, true≢false, set, refl, sym, ap, ◌∙◌, subst, inl, inr, ⊎_elim, arith, if◌then◌else◌}
+use mathlib.Core.Option.{some}
 use lib.ListN.{get_elem?}
 use Rattle.atomic_table.proofs.Lists.{at_set, at_snoc, set_again}
 use Rattle.claim_word.specs.declared.view.View.{View}
 use Rattle.claim_word.specs.Words.{version_of, pairs_of, index_of, next_claim, IsSince}
-use Rattle.claim_word.specs.Steps.{is_same, times, claimed, IsPast, IsKept, Agrees, nobody, opening_view, with_claim, advanced, joined}
+use Rattle.claim_word.specs.Steps.{is_same, times, claimed, IsPast, IsKept, Agrees, nobody, with_claim, advanced, joined}
 use Rattle.claim_word.proofs.Counts.{times-append, times-push, same_or_not, claimed-set, claimed-push, times-le}
 
 -- one seat at most is the board's, and the word comes from the one that it wrote
@@ -20,6 +20,7 @@ board_set place word views p w one mine q u at is =
     (λ (h : (q ≢ p) × (get_elem? views q ≡ some u)). one q u h.1 is)
     (at_set views p q w u at)
 
+-- what the rule says of one view of many
 pub agrees : (word : ℕ) (views : List View) (p : ℕ) (v : View) → get_elem? views p ≡ some v → IsKept word views → Agrees v word
 agrees word views p v at kept =
     record {
@@ -57,6 +58,7 @@ past_next w c room past =
     (λ (h : (version_of (w + 1) ≡ c.0) × (index_of (w + 1) ≤ c.1)). (inr (omega arith, omega arith), λ e. let f : c.1 ≡ index_of w = ap (λ (p : ℕ × ℕ). p.1) e in omega arith))
     past
 
+-- a view gets the claim that the word offers, and the word goes on to the next
 pub kept_claim : (w : ℕ) (views : List View) (p : ℕ) (v : View) → get_elem? views p ≡ some v → index_of w < pairs_of w → IsKept w views → IsKept (w + 1) (set views p (with_claim v (next_claim w)))
 kept_claim w views p v at room kept =
     let n = next_word w room in
@@ -159,16 +161,3 @@ kept_cut word views p left right at beside kept =
             (at_snoc (set views p left) right u q e),
       );
     }
-
--- a new word has no claim
-pub kept_new : (word : ℕ) → index_of word ≡ 0 → IsKept word (opening_view word ∷ [])
-kept_new word zeroed = record {
-  fine = omega arith;
-  below = λ c past. refl;
-  apart = λ c. omega arith;
-  board = (0, one);
-}
-  where
-    one : OneBoard 0 word (opening_view word ∷ [])
-    one zero u e is = (refl, subst (λ (x : View). IsSince x.written word) (some-injective (opening_view word) u e) (refl, refl, omega arith))
-    one (suc q) u e is = absurd (some-ne-none u (sym e))

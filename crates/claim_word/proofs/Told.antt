@@ -10,6 +10,7 @@ use Rattle.claim_word.specs.Seats.{AreApart, HaveNoneInCommon, IsSound}
 use Rattle.claim_word.specs.Steps.{is_same, times, IsPast, Agrees, seat_state}
 use Rattle.claim_word.proofs.Counts.{same_some, same_or_not, times_there}
 
+-- a claim is below the word, or not
 before_or_past : (word : ℕ) (c : ℕ × ℕ) → IsBefore c (next_claim word) ⊎ IsPast word c
 before_or_past word c = ⊎_elim
     (λ (e : c.0 ≡ version_of word). ⊎_elim (λ (l : c.1 < index_of word). inl (inr (e, l))) (λ (g : index_of word ≤ c.1). inr (inr (sym e, g))) (cases_lt c.1 (index_of word)))
@@ -27,6 +28,7 @@ twice x xs j c once e f = ⊎_elim
     (λ (h : (is_same c x ≡ false) × (c ≢ x)). h.1 (sym (same_some x c e)))
     (same_or_not c x)
 
+-- what is counted once at most stands at one place
 apart : (xs : List (ℕ × ℕ)) → ((c : ℕ × ℕ) → times c xs ≤ 1) → AreApart xs
 apart [] once i j c e f = absurd (cc)
 apart (x ∷ xs) once zero zero c e f = refl
@@ -44,6 +46,7 @@ behind : (xs ys : List (ℕ × ℕ)) (k : ℕ) → slice_get (xs ++ ys) (length 
 behind [] ys k = ap (slice_get ys) (omega arith)
 behind (x ∷ xs) ys k = let e : length (x ∷ xs) + k ≡ suc (length xs + k) = omega arith in ap (slice_get ((x ∷ xs) ++ ys)) e ∙ behind xs ys k
 
+-- where no claim stands twice in two lists, none is in both
 pub none_in_common : (xs ys : List (ℕ × ℕ)) → AreApart (xs ++ ys) → HaveNoneInCommon xs ys
 none_in_common xs ys apart c (i, lt, is) (j, lt', is') =
     let front = in_front xs ys i c (slice_get-get_or xs i c lt ∙ ap Some is) in
@@ -51,6 +54,7 @@ none_in_common xs ys apart c (i, lt, is) (j, lt', is') =
     let same = apart i (length xs + j) c front back in
     omega arith
 
+-- the rule of one view is what its seat is told
 pub told : (table : TableId) (v : View) (word : ℕ) → Agrees v word → IsSound (seat_state table v) word
 told table v word a = record {
   fine = a.fine;
