@@ -1,0 +1,4 @@
+mod Counts
+mod Kept
+mod Moves
+mod Told

@@ -1,0 +1,3 @@
+pub mod Words
+pub mod Seats
+pub mod Steps
