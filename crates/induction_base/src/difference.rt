@@ -5,7 +5,7 @@ ghost use Rattle.induction_base.specs.Least.{IsLeastOrNone, IsLeastOf};
 
 use crate::earliest::earliest;
 use crate::rows::first_rows;
-use frame_unroll::Prepared;
+use frame_unroll::{Prepared, Workspace};
 use product_machine::{Path, Product};
 use std::alloc::{AllocError, Global};
 
@@ -52,11 +52,12 @@ fn search(alloc: Global, product: &Product, k: u32) -> Result<Option<Diff>, Allo
 {
     let frames = Prepared::reset_frames(alloc, product, k)?;
     let _cells = product.cells();
+    let mut work = Workspace::new();
     let mut bound = k;
     let mut best: Option<Diff> = None;
     for j in 0..product.outputs() {
         let (left, right) = product.output(j);
-        if let Some(seen) = earliest(alloc, &frames, left, right, bound)? {
+        if let Some(seen) = earliest(alloc, &mut work, &frames, left, right, bound)? {
             bound = seen.frame;
             best = Some(Diff {
                 frame: seen.frame,

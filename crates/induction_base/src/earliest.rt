@@ -5,12 +5,13 @@ ghost use Rattle.frame_unroll.specs.Unrolled.{from_reset};
 ghost use Rattle.induction_base.specs.Earliest.{IsEarliest};
 
 use circ_model::Lit;
-use frame_unroll::{Found, Prepared, Seen};
+use frame_unroll::{Found, Prepared, Seen, Workspace};
 use std::alloc::{AllocError, Global};
 
 // The least frame below a bound in which two literals differ on some run, with a run on which they do.
 pub(crate) fn earliest(
     alloc: Global,
+    work: &mut Workspace,
     frames: &Prepared<'_>,
     a: Lit,
     b: Lit,
@@ -28,7 +29,7 @@ pub(crate) fn earliest(
     let mut bound = below;
     let mut seen: Option<Seen> = None;
     while bound > 0 {
-        match frames.find(alloc, a, b, 0, bound - 1)? {
+        match frames.find_in(alloc, work, a, b, 0, bound - 1)? {
             Found::None(_) => return Ok(seen),
             Found::Path(earlier) => {
                 bound = earlier.frame;
