@@ -1,0 +1,4 @@
+pub mod Naming
+pub mod Building
+pub mod Numbers
+pub mod Taking

@@ -1,0 +1,128 @@
+// Words that aren't plain, as clap takes them.
+ghost use Rattle.std.specs.Prelude.{◌≡◌, ◌≤◌, IfOk, IfSome, MatchResult, None, Some, option_map};
+ghost use Rattle.clap.specs.Words.{first_of, found_of, rows_of, subcommand_rows_of};
+ghost use Rattle.command_line.specs.Asked.{asked_of, IsWithin};
+ghost use Rattle.command_line.specs.Meant.{number_of, has_flag, check_matched, replay_matched, verify_matched, demo_matched, matched, taken_command};
+ghost use Rattle.command_line.specs.Plain.{texts};
+
+use crate::app::sec_command;
+use crate::command::{Check, Command, Demo, Replay, Unread, Verify};
+use clap::ArgMatches;
+use clap::error::ErrorKind;
+use std::alloc::Global;
+
+// The first text of an argument.
+fn text_of<'w>(found: &ArgMatches<'w>, id: &str) -> Option<&'w str>
+    ensures { option_map (λ s. s.now) result ≡ first_of id.now (rows_of (found_of found.now)) }
+{
+    found.get_str(id)
+}
+
+// The number of an option, within its limits.
+fn number_of(found: &ArgMatches, id: &str, least: u32, most: u32) -> Option<u32>
+    ensures number { result ≡ number_of id.now least most (rows_of (found_of found.now)) }
+    ensures within { IfSome result (λ n. (least ≤ n) × (n ≤ most)) }
+{
+    let number = found.get_one::<u32>(id)?;
+    if least <= number && number <= most {
+        Some(number)
+    } else {
+        None
+    }
+}
+
+// Whether a flag was there.
+fn has_flag(found: &ArgMatches, id: &str) -> bool
+    ensures { result ≡ has_flag id.now (rows_of (found_of found.now)) }
+{
+    match text_of(found, id) {
+        Some(text) => text == "true",
+        None => false,
+    }
+}
+
+fn check_of<'w>(found: &ArgMatches<'w>) -> Option<Command<'w>>
+    ensures command { option_map asked_of result ≡ check_matched (rows_of (found_of found.now)) }
+    ensures within { IfSome result (λ c. IsWithin (asked_of c)) }
+{
+    let left = text_of(found, "LEFT")?;
+    let right = text_of(found, "RIGHT")?;
+    let k = number_of(found, "k", 1, 16)?;
+    let workers = number_of(found, "j", 1, 64)?;
+    Some(Command::Check(Check {
+        left,
+        right,
+        k,
+        workers,
+        classes: has_flag(found, "classes"),
+        stats: has_flag(found, "stats"),
+        trace: text_of(found, "trace"),
+        cert: text_of(found, "cert"),
+    }))
+}
+
+fn replay_of<'w>(found: &ArgMatches<'w>) -> Option<Command<'w>>
+    ensures command { option_map asked_of result ≡ replay_matched (rows_of (found_of found.now)) }
+    ensures within { IfSome result (λ c. IsWithin (asked_of c)) }
+{
+    let left = text_of(found, "LEFT")?;
+    let right = text_of(found, "RIGHT")?;
+    let trace = text_of(found, "TRACE")?;
+    Some(Command::Replay(Replay { left, right, trace }))
+}
+
+fn verify_of<'w>(found: &ArgMatches<'w>) -> Option<Command<'w>>
+    ensures command { option_map asked_of result ≡ verify_matched (rows_of (found_of found.now)) }
+    ensures within { IfSome result (λ c. IsWithin (asked_of c)) }
+{
+    let left = text_of(found, "LEFT")?;
+    let right = text_of(found, "RIGHT")?;
+    let cert = text_of(found, "CERT")?;
+    Some(Command::Verify(Verify { left, right, cert }))
+}
+
+fn demo_of<'w>(found: &ArgMatches<'w>) -> Option<Command<'w>>
+    ensures command { option_map asked_of result ≡ demo_matched (rows_of (found_of found.now)) }
+    ensures within { IfSome result (λ c. IsWithin (asked_of c)) }
+{
+    let n = number_of(found, "N", 0, 100000)?;
+    let k = number_of(found, "k", 1, 16)?;
+    let workers = number_of(found, "j", 1, 64)?;
+    Some(Command::Demo(Demo { n, k, workers }))
+}
+
+// What the matches say.
+fn matched<'w>(matches: &ArgMatches<'w>) -> Option<Command<'w>>
+    ensures command { option_map asked_of result ≡ matched (subcommand_rows_of matches.now) }
+    ensures within { IfSome result (λ c. IsWithin (asked_of c)) }
+{
+    let (name, found) = matches.subcommand()?;
+    if name == "check" {
+        check_of(found)
+    } else if name == "replay" {
+        replay_of(found)
+    } else if name == "verify" {
+        verify_of(found)
+    } else if name == "demo" {
+        demo_of(found)
+    } else {
+        None
+    }
+}
+
+/// The command that clap reads of the words.
+pub(crate) fn taken_command<'w>(alloc: Global, words: &'w [String]) -> Result<Command<'w>, Unread>
+    ensures read { MatchResult result (λ c. taken_command (texts words.now) ≡ Some (asked_of c)) (λ e. e ≡ Unread.NotACommand → taken_command (texts words.now) ≡ None) }
+    ensures within { IfOk result (λ c. IsWithin (asked_of c)) }
+{
+    let Ok(command) = sec_command(alloc) else {
+        return Err(Unread::Memory);
+    };
+    match command.try_get_matches_from(words) {
+        Ok(matches) => matched(&matches).ok_or(Unread::NotACommand),
+        Err(error) => match error.kind() {
+            ErrorKind::OutOfMemory => Err(Unread::Memory),
+            _ => Err(Unread::NotACommand),
+        },
+    }
+}
