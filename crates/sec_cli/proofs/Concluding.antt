@@ -8,12 +8,11 @@ use Rattle.sec_cli.specs.declared.ending.Unpaired.{Unpaired}
 use Rattle.sec_cli.specs.declared.ending.Unpaired.TheVariants as unpaired
 use Rattle.sec_cli.specs.declared.ending.Refusal.{Refusal}
 use Rattle.sec_cli.specs.declared.ending.Refusal.TheVariants as refusals
-use Rattle.sec_cli.specs.declared.words.Command.{Command}
-use Rattle.sec_cli.specs.declared.words.Command.TheVariants as commands
+use Rattle.command_line.specs.Asked.{Asked, ForCheck, ForReplay, ForVerify, ForDemo}
 use Rattle.sec_cli.specs.Endings.{Ending, IsLoadFailed, IsLoadEnding, refines, journal_of, failed_side, failed_names, left_name, right_name, third_name}
 use Rattle.sec_cli.specs.Texts.{memory_text}
-use Rattle.sec_cli.specs.Reports.{World, IsReport, IsStored, IsToldIn, unpaired_status, unpaired_text, refusal_status, refusal_text, store_place, name_at}
-use Rattle.sec_cli.specs.Runs.{Ended, IsAnswered, IsRefused, IsUnread, IsUnwritten}
+use Rattle.sec_cli.specs.Reports.{World, IsReport, IsStored, IsToldIn, unpaired_status, unpaired_text, refusal_status, refusal_text, store_name}
+use Rattle.sec_cli.specs.Runs.{Ended, IsAnswered, IsJournalOfWords, IsRefused, IsUnread, IsUnwritten}
 
 -- refusals have the statuses 4, 5 and 7
 unpaired_high : (u : Unpaired) → (4 ≤ unpaired_status u) × (unpaired_status u ≢ 6) × (unpaired_status u ≤ 7)
@@ -79,91 +78,91 @@ no_name left right trace (refusals.TraceRefused f) h = refl
 no_name left right trace (refusals.CertRefused f) h = refl
 
 -- only differences and equivalences have a file
-no_place : (c : Command) (status : ℕ) → 2 ≤ status → store_place c status ≡ None
-no_place (commands.Replay c) status h = refl
-no_place (commands.Verify c) status h = refl
-no_place (commands.Demo d) status h = refl
-no_place (commands.Check c) status h = let d = ne_eqb status 1 (λ e. omega (arith, h, e)) in let q = ne_eqb status 0 (λ e. omega (arith, h, e)) in rw d (rw q refl)
+no_name_for : (c : Asked) (status : ℕ) → 2 ≤ status → store_name c status ≡ None
+no_name_for (ForReplay c) status h = refl
+no_name_for (ForVerify c) status h = refl
+no_name_for (ForDemo d) status h = refl
+no_name_for (ForCheck c) status h = let d = ne_eqb status 1 (λ e. omega (arith, h, e)) in let q = ne_eqb status 0 (λ e. omega (arith, h, e)) in rw d (rw q refl)
 
 -- the clauses of a run, for each ending
-pub answered : (tells : Bool) (words : List (List ℕ)) (c : Command) (e : Ending) (journal : Option Written) (before after : World) (status : ℕ) → IfOk e (λ a. a.status ≤ 2) → IfOk e (λ a. is_some a.journal ≡ refines c a.status) → journal ≡ journal_of e → Ended tells before.files words c e → IsReport tells words c e before after status → status ≤ 2
-    → IsAnswered tells words c status journal before after
-answered tells words c (Ok a) journal before after status low has from ended (inl (is, p)) le = record { answer = a; ended = ended; status_is = sym is; journal_is = sym from; refined = ap is_some from ∙ has ∙ ap (refines c) (sym is); stored = p.stored; printed = p.printed }
-answered tells words c (Ok a) journal before after status low has from ended (inr (inl (six, p))) le = absurd (omega (arith, six, le))
-answered tells words c (Ok a) journal before after status low has from ended (inr (inr (seven, p))) le = absurd (omega (arith, seven, le))
-answered tells words c (Err r) journal before after status low has from ended (is, p) le = absurd (omega (arith, is, (refusal_high r).0, le))
+pub answered : (tells : Bool) (c : Asked) (e : Ending) (journal : Option Written) (before after : World) (status : ℕ) → IfOk e (λ a. a.status ≤ 2) → IfOk e (λ a. is_some a.journal ≡ refines c a.status) → journal ≡ journal_of e → Ended tells before.files c e → IsReport tells c e before after status → status ≤ 2
+    → IsAnswered tells c status journal before after
+answered tells c (Ok a) journal before after status low has from ended (inl (is, p)) le = record { answer = a; ended = ended; status_is = sym is; journal_is = sym from; refined = ap is_some from ∙ has ∙ ap (refines c) (sym is); stored = p.stored; printed = p.printed }
+answered tells c (Ok a) journal before after status low has from ended (inr (inl (six, p))) le = absurd (omega (arith, six, le))
+answered tells c (Ok a) journal before after status low has from ended (inr (inr (seven, p))) le = absurd (omega (arith, seven, le))
+answered tells c (Err r) journal before after status low has from ended (is, p) le = absurd (omega (arith, is, (refusal_high r).0, le))
 
-pub quiet : (tells : Bool) (words : List (List ℕ)) (c : Command) (e : Ending) (before after : World) (status : ℕ) → IsReport tells words c e before after status → status ≤ 2 → after.err ≡ before.err
-quiet tells words c (Ok a) before after status (inl (is, p)) le = p.quiet
-quiet tells words c (Ok a) before after status (inr (inl (six, p))) le = absurd (omega (arith, six, le))
-quiet tells words c (Ok a) before after status (inr (inr (seven, p))) le = absurd (omega (arith, seven, le))
-quiet tells words c (Err r) before after status (is, p) le = absurd (omega (arith, is, (refusal_high r).0, le))
+pub quiet : (tells : Bool) (c : Asked) (e : Ending) (before after : World) (status : ℕ) → IsReport tells c e before after status → status ≤ 2 → after.err ≡ before.err
+quiet tells c (Ok a) before after status (inl (is, p)) le = p.quiet
+quiet tells c (Ok a) before after status (inr (inl (six, p))) le = absurd (omega (arith, six, le))
+quiet tells c (Ok a) before after status (inr (inr (seven, p))) le = absurd (omega (arith, seven, le))
+quiet tells c (Err r) before after status (is, p) le = absurd (omega (arith, is, (refusal_high r).0, le))
 
-pub refused : (tells : Bool) (words : List (List ℕ)) (c : Command) (e : Ending) (before after : World) (status : ℕ) → IfOk e (λ a. a.status ≤ 2) → Ended tells before.files words c e → IsReport tells words c e before after status → status ≡ 4
-    → IsRefused tells words c before after
-refused tells words c (Ok a) before after status low ended (inl (is, p)) four = absurd (omega (arith, is, low, four))
-refused tells words c (Ok a) before after status low ended (inr (inl (six, p))) four = absurd (omega (arith, six, four))
-refused tells words c (Ok a) before after status low ended (inr (inr (seven, p))) four = absurd (omega (arith, seven, four))
-refused tells words c (Err r) before after status low ended (is, p) four = record { refusal = r; ended = ended; status_is = sym is ∙ four; told = p.told }
+pub refused : (tells : Bool) (c : Asked) (e : Ending) (before after : World) (status : ℕ) → IfOk e (λ a. a.status ≤ 2) → Ended tells before.files c e → IsReport tells c e before after status → status ≡ 4
+    → IsRefused tells c before after
+refused tells c (Ok a) before after status low ended (inl (is, p)) four = absurd (omega (arith, is, low, four))
+refused tells c (Ok a) before after status low ended (inr (inl (six, p))) four = absurd (omega (arith, six, four))
+refused tells c (Ok a) before after status low ended (inr (inr (seven, p))) four = absurd (omega (arith, seven, four))
+refused tells c (Err r) before after status low ended (is, p) four = record { refusal = r; ended = ended; status_is = sym is ∙ four; told = p.told }
 
-pub unread : (tells : Bool) (words : List (List ℕ)) (c : Command) (e : Ending) (names names_after : Option (List (List ℕ))) (before after : World) (status : ℕ) → IfOk e (λ a. a.status ≤ 2) → Ended tells before.files words c e
-    → names_after ≡ appended names (failed_names (left_name words c) (right_name words c) (third_name words c) e) → IsReport tells words c e before after status → status ≡ 5
-    → IsUnread tells words c names names_after before after
-unread tells words c (Ok a) names names_after before after status low ended named (inl (is, p)) five = absurd (omega (arith, is, low, five))
-unread tells words c (Ok a) names names_after before after status low ended named (inr (inl (six, p))) five = absurd (omega (arith, six, five))
-unread tells words c (Ok a) names names_after before after status low ended named (inr (inr (seven, p))) five = absurd (omega (arith, seven, five))
-unread tells words c (Err r) names names_after before after status low ended named (is, p) five = record { refusal = r; ended = ended; status_is = sym is ∙ five; name = named; told = p.told }
+pub unread : (tells : Bool) (c : Asked) (e : Ending) (names names_after : Option (List (List ℕ))) (before after : World) (status : ℕ) → IfOk e (λ a. a.status ≤ 2) → Ended tells before.files c e
+    → names_after ≡ appended names (failed_names (left_name c) (right_name c) (third_name c) e) → IsReport tells c e before after status → status ≡ 5
+    → IsUnread tells c names names_after before after
+unread tells c (Ok a) names names_after before after status low ended named (inl (is, p)) five = absurd (omega (arith, is, low, five))
+unread tells c (Ok a) names names_after before after status low ended named (inr (inl (six, p))) five = absurd (omega (arith, six, five))
+unread tells c (Ok a) names names_after before after status low ended named (inr (inr (seven, p))) five = absurd (omega (arith, seven, five))
+unread tells c (Err r) names names_after before after status low ended named (is, p) five = record { refusal = r; ended = ended; status_is = sym is ∙ five; name = named; told = p.told }
 
-pub is_load : (tells : Bool) (words : List (List ℕ)) (c : Command) (e : Ending) (before after : World) (status : ℕ) → IfOk e (λ a. a.status ≤ 2) → IsReport tells words c e before after status → status ≡ 5 → IsLoadEnding e
-is_load tells words c (Ok a) before after status low (inl (is, p)) five = absurd (omega (arith, is, low, five))
-is_load tells words c (Ok a) before after status low (inr (inl (six, p))) five = absurd (omega (arith, six, five))
-is_load tells words c (Ok a) before after status low (inr (inr (seven, p))) five = absurd (omega (arith, seven, five))
-is_load tells words c (Err r) before after status low (is, p) five = refusal_load r (sym is ∙ five)
+pub is_load : (tells : Bool) (c : Asked) (e : Ending) (before after : World) (status : ℕ) → IfOk e (λ a. a.status ≤ 2) → IsReport tells c e before after status → status ≡ 5 → IsLoadEnding e
+is_load tells c (Ok a) before after status low (inl (is, p)) five = absurd (omega (arith, is, low, five))
+is_load tells c (Ok a) before after status low (inr (inl (six, p))) five = absurd (omega (arith, six, five))
+is_load tells c (Ok a) before after status low (inr (inr (seven, p))) five = absurd (omega (arith, seven, five))
+is_load tells c (Err r) before after status low (is, p) five = refusal_load r (sym is ∙ five)
 
-pub unwritten : (tells : Bool) (words : List (List ℕ)) (c : Command) (e : Ending) (journal : Option Written) (before after : World) (status : ℕ) → IfOk e (λ a. a.status ≤ 2) → IfOk e (λ a. is_some a.journal ≡ refines c a.status) → journal ≡ journal_of e → Ended tells before.files words c e → IsReport tells words c e before after status → status ≡ 6
-    → IsUnwritten tells words c journal before after
-unwritten tells words c (Ok a) journal before after status low has from ended (inl (is, p)) six = absurd (omega (arith, is, low, six))
-unwritten tells words c (Ok a) journal before after status low has from ended (inr (inl (is, p))) six = record { answer = a; ended = ended; journal_is = sym from; refined = ap is_some from ∙ has; failed = p }
-unwritten tells words c (Ok a) journal before after status low has from ended (inr (inr (seven, p))) six = absurd (omega (arith, seven, six))
-unwritten tells words c (Err r) journal before after status low has from ended (is, p) six = absurd ((refusal_high r).1 (sym is ∙ six))
+pub unwritten : (tells : Bool) (c : Asked) (e : Ending) (journal : Option Written) (before after : World) (status : ℕ) → IfOk e (λ a. a.status ≤ 2) → IfOk e (λ a. is_some a.journal ≡ refines c a.status) → journal ≡ journal_of e → Ended tells before.files c e → IsReport tells c e before after status → status ≡ 6
+    → IsUnwritten tells c journal before after
+unwritten tells c (Ok a) journal before after status low has from ended (inl (is, p)) six = absurd (omega (arith, is, low, six))
+unwritten tells c (Ok a) journal before after status low has from ended (inr (inl (is, p))) six = record { answer = a; ended = ended; journal_is = sym from; refined = ap is_some from ∙ has; failed = p }
+unwritten tells c (Ok a) journal before after status low has from ended (inr (inr (seven, p))) six = absurd (omega (arith, seven, six))
+unwritten tells c (Err r) journal before after status low has from ended (is, p) six = absurd ((refusal_high r).1 (sym is ∙ six))
 
-pub no_journal : (tells : Bool) (words : List (List ℕ)) (c : Command) (e : Ending) (journal : Option Written) (before after : World) (status : ℕ) → IfOk e (λ a. a.status ≤ 2) → journal ≡ journal_of e → IsReport tells words c e before after status → 3 ≤ status → status ≤ 5
+pub no_journal : (tells : Bool) (c : Asked) (e : Ending) (journal : Option Written) (before after : World) (status : ℕ) → IfOk e (λ a. a.status ≤ 2) → journal ≡ journal_of e → IsReport tells c e before after status → 3 ≤ status → status ≤ 5
     → journal ≡ None
-no_journal tells words c (Ok a) journal before after status low from (inl (is, p)) high le = absurd (omega (arith, is, low, high))
-no_journal tells words c (Ok a) journal before after status low from (inr (inl (six, p))) high le = absurd (omega (arith, six, le))
-no_journal tells words c (Ok a) journal before after status low from (inr (inr (seven, p))) high le = absurd (omega (arith, seven, le))
-no_journal tells words c (Err r) journal before after status low from report high le = from
+no_journal tells c (Ok a) journal before after status low from (inl (is, p)) high le = absurd (omega (arith, is, low, high))
+no_journal tells c (Ok a) journal before after status low from (inr (inl (six, p))) high le = absurd (omega (arith, six, le))
+no_journal tells c (Ok a) journal before after status low from (inr (inr (seven, p))) high le = absurd (omega (arith, seven, le))
+no_journal tells c (Err r) journal before after status low from report high le = from
 
-pub told_memory : (tells : Bool) (words : List (List ℕ)) (c : Command) (e : Ending) (before after : World) (status : ℕ) → IfOk e (λ a. a.status ≤ 2) → IsReport tells words c e before after status → status ≡ 7 → IsToldIn before after memory_text
-told_memory tells words c (Ok a) before after status low (inl (is, p)) seven = absurd (omega (arith, is, low, seven))
-told_memory tells words c (Ok a) before after status low (inr (inl (six, p))) seven = absurd (omega (arith, six, seven))
-told_memory tells words c (Ok a) before after status low (inr (inr (is, p))) seven = p.told
-told_memory tells words c (Err r) before after status low (is, p) seven = subst (IsToldIn before after) (refusal_memory (left_name words c) (right_name words c) (third_name words c) r (sym is ∙ seven)) p.told
+pub told_memory : (tells : Bool) (c : Asked) (e : Ending) (before after : World) (status : ℕ) → IfOk e (λ a. a.status ≤ 2) → IsReport tells c e before after status → status ≡ 7 → IsToldIn before after memory_text
+told_memory tells c (Ok a) before after status low (inl (is, p)) seven = absurd (omega (arith, is, low, seven))
+told_memory tells c (Ok a) before after status low (inr (inl (six, p))) seven = absurd (omega (arith, six, seven))
+told_memory tells c (Ok a) before after status low (inr (inr (is, p))) seven = p.told
+told_memory tells c (Err r) before after status low (is, p) seven = subst (IsToldIn before after) (refusal_memory (left_name c) (right_name c) (third_name c) r (sym is ∙ seven)) p.told
 
-pub out_stays : (tells : Bool) (words : List (List ℕ)) (c : Command) (e : Ending) (before after : World) (status : ℕ) → IfOk e (λ a. a.status ≤ 2) → IsReport tells words c e before after status → 3 ≤ status → status ≢ 6 → after.out ≡ before.out
-out_stays tells words c (Ok a) before after status low (inl (is, p)) high h = absurd (omega (arith, is, low, high))
-out_stays tells words c (Ok a) before after status low (inr (inl (six, p))) high h = absurd (h six)
-out_stays tells words c (Ok a) before after status low (inr (inr (is, p))) high h = p.kept
-out_stays tells words c (Err r) before after status low (is, p) high h = p.kept
+pub out_stays : (tells : Bool) (c : Asked) (e : Ending) (before after : World) (status : ℕ) → IfOk e (λ a. a.status ≤ 2) → IsReport tells c e before after status → 3 ≤ status → status ≢ 6 → after.out ≡ before.out
+out_stays tells c (Ok a) before after status low (inl (is, p)) high h = absurd (omega (arith, is, low, high))
+out_stays tells c (Ok a) before after status low (inr (inl (six, p))) high h = absurd (h six)
+out_stays tells c (Ok a) before after status low (inr (inr (is, p))) high h = p.kept
+out_stays tells c (Err r) before after status low (is, p) high h = p.kept
 
-pub names_stay : (tells : Bool) (words : List (List ℕ)) (c : Command) (e : Ending) (names names_after : Option (List (List ℕ))) (before after : World) (status : ℕ)
-    → names_after ≡ appended names (failed_names (left_name words c) (right_name words c) (third_name words c) e) → IsReport tells words c e before after status → status ≢ 5 → names_after ≡ names
-names_stay tells words c (Ok a) names names_after before after status named p h = named ∙ appended_none names
-names_stay tells words c (Err r) names names_after before after status named (is, p) h =
-    named ∙ ap (appended names) (no_name (left_name words c) (right_name words c) (third_name words c) r (λ five. h (is ∙ five))) ∙ appended_none names
+pub names_stay : (tells : Bool) (c : Asked) (e : Ending) (names names_after : Option (List (List ℕ))) (before after : World) (status : ℕ)
+    → names_after ≡ appended names (failed_names (left_name c) (right_name c) (third_name c) e) → IsReport tells c e before after status → status ≢ 5 → names_after ≡ names
+names_stay tells c (Ok a) names names_after before after status named p h = named ∙ appended_none names
+names_stay tells c (Err r) names names_after before after status named (is, p) h =
+    named ∙ ap (appended names) (no_name (left_name c) (right_name c) (third_name c) r (λ five. h (is ∙ five))) ∙ appended_none names
 
-pub files_stay : (tells : Bool) (words : List (List ℕ)) (c : Command) (e : Ending) (before after : World) (status : ℕ) → IsReport tells words c e before after status → 2 ≤ status → status ≢ 6 → after.files ≡ before.files
-files_stay tells words c (Ok a) before after status (inl (is, p)) high six =
-    subst (λ place. IsStored tells before.files after.files (name_at words place) a.file.items) (no_place c a.status (omega (arith, is, high))) p.stored
-files_stay tells words c (Ok a) before after status (inr (inl (is, p))) high six = absurd (six is)
-files_stay tells words c (Ok a) before after status (inr (inr (is, p))) high six = p.files
-files_stay tells words c (Err r) before after status (is, p) high six = p.files
+pub files_stay : (tells : Bool) (c : Asked) (e : Ending) (before after : World) (status : ℕ) → IsReport tells c e before after status → 2 ≤ status → status ≢ 6 → after.files ≡ before.files
+files_stay tells c (Ok a) before after status (inl (is, p)) high six =
+    subst (λ name. IsStored tells before.files after.files name a.file.items) (no_name_for c a.status (omega (arith, is, high))) p.stored
+files_stay tells c (Ok a) before after status (inr (inl (is, p))) high six = absurd (six is)
+files_stay tells c (Ok a) before after status (inr (inr (is, p))) high six = p.files
+files_stay tells c (Err r) before after status (is, p) high six = p.files
 
-pub within : (tells : Bool) (words : List (List ℕ)) (c : Command) (e : Ending) (before after : World) (status : ℕ) → IfOk e (λ a. a.status ≤ 2) → IsReport tells words c e before after status → (status ≤ 7) × (status ≢ 3)
-within tells words c (Ok a) before after status low (inl (is, p)) = (omega (arith, is, low), λ e. omega (arith, is, low, e))
-within tells words c (Ok a) before after status low (inr (inl (six, p))) = (omega (arith, six), λ e. omega (arith, six, e))
-within tells words c (Ok a) before after status low (inr (inr (seven, p))) = (omega (arith, seven), λ e. omega (arith, seven, e))
-within tells words c (Err r) before after status low (is, p) = let high = refusal_high r in (omega (arith, is, high.2), λ e. omega (arith, is, high.0, e))
+pub within : (tells : Bool) (c : Asked) (e : Ending) (before after : World) (status : ℕ) → IfOk e (λ a. a.status ≤ 2) → IsReport tells c e before after status → (status ≤ 7) × (status ≢ 3)
+within tells c (Ok a) before after status low (inl (is, p)) = (omega (arith, is, low), λ e. omega (arith, is, low, e))
+within tells c (Ok a) before after status low (inr (inl (six, p))) = (omega (arith, six), λ e. omega (arith, six, e))
+within tells c (Ok a) before after status low (inr (inr (seven, p))) = (omega (arith, seven), λ e. omega (arith, seven, e))
+within tells c (Err r) before after status low (is, p) = let high = refusal_high r in (omega (arith, is, high.2), λ e. omega (arith, is, high.0, e))
 
 -- a world with the same files and store faults is the same
 pub moved : (P : World → Type 0) (f g : List ℕ → Option (List ℕ)) (m n : ℕ) (out : Option (List ℕ)) (out_faults : ℕ) (err : Option (List ℕ)) (err_faults : ℕ) → f ≡ g → m ≡ n
@@ -172,6 +171,14 @@ moved P f g m n out out_faults err err_faults e h p =
     subst (λ (k : ℕ). P (record { files = g; store_faults = k; out = out; out_faults = out_faults; err = err; err_faults = err_faults })) h
     (subst (λ (k : List ℕ → Option (List ℕ)). P (record { files = k; store_faults = m; out = out; out_faults = out_faults; err = err; err_faults = err_faults })) e p)
 
--- what holds of the command that the words are
-pub some_and : (o : Option Command) (c : Command) (P : Command → Type 0) → o ≡ Some c → P c → IsSomeAnd o P
-some_and o c P e p = subst (λ (x : Option Command). IsSomeAnd x P) (sym e) p
+-- what holds of the command that the words mean
+pub some_and : (o : Option Asked) (c : Asked) (P : Asked → Type 0) → o ≡ Some c → P c → IsSomeAnd o P
+some_and o c P e p = subst (λ (x : Option Asked). IsSomeAnd x P) (sym e) p
+
+-- where there was no memory to read the words there is no journal
+pub no_memory_journal : (tells : Bool) (files : List ℕ → Option (List ℕ)) (o : Option Asked) → IsJournalOfWords tells files o None
+no_memory_journal tells files None = refl
+no_memory_journal tells files (Some (ForCheck c)) = (Err refusals.Memory, (λ _. tt), refl)
+no_memory_journal tells files (Some (ForReplay c)) = (Err refusals.Memory, (λ _. tt), refl)
+no_memory_journal tells files (Some (ForVerify c)) = (Err refusals.Memory, (λ _. tt), refl)
+no_memory_journal tells files (Some (ForDemo d)) = (Err refusals.Memory, (λ _. tt), refl)

@@ -1,5 +1,4 @@
 pub mod CutShort
-pub mod Naming
 pub mod Concluding
 pub mod Tallied
 pub mod LeftOut
@@ -7,4 +6,3 @@ pub mod Verdicts
 pub mod Pairing
 pub mod Trying
 pub mod Unfailing
-pub mod Storing

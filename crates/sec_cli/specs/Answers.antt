@@ -16,8 +16,8 @@ use Rattle.split_workers.specs.Refined.{IsRefined}
 use Rattle.sec_cli.specs.Stats.{stats_of}
 use Rattle.sec_cli.specs.Texts.{equivalent_line, undecided_line, different_line, differs_line, agrees_line, stats_line, verified_line, demo_line}
 use Rattle.sec_cli.specs.declared.ending.Answer.{Answer}
-use Rattle.sec_cli.specs.declared.words.Check.{Check}
-use Rattle.sec_cli.specs.declared.words.Demo.{Demo}
+use Rattle.command_line.specs.Asked.{CheckAsked}
+use Rattle.command_line.specs.declared.command.Demo.{Demo}
 use Rattle.demo_pair.specs.Demo.{IsDemo}
 use Rattle.circ_model.specs.Netlist.{Netlist}
 
@@ -27,21 +27,21 @@ status_of_verdict (Different frame output) = 1
 status_of_verdict (Undecided classes unpaired) = 2
 
 -- the lines of the greatest correspondence's classes, where they are asked for
-abbrev pub AreClassLines : Pair → Check → List ℕ → Type 0
+abbrev pub AreClassLines : Pair → CheckAsked → List ℕ → Type 0
 AreClassLines pair c lines = MatchBool c.classes
     ((classes : Classes) × ArePartition (places_of pair) classes × AreOfGreatest pair c.k classes × (lines ≡ class_lines pair classes))
     (lines ≡ [])
 
 -- the journal of a refinement of this pair, by as many workers as are asked for
-abbrev pub IsJournalOf : Pair → Check → List Entry → Type 0
+abbrev pub IsJournalOf : Pair → CheckAsked → List Entry → Type 0
 IsJournalOf pair c entries = (version : Standing) × IsRefined pair c.k c.workers version entries
 
 -- the line of the journal's numbers, where it is asked for
-abbrev pub stats_lines : Check → List Entry → List ℕ
+abbrev pub stats_lines : CheckAsked → List Entry → List ℕ
 stats_lines c entries = if c.stats then stats_line (stats_of entries) else []
 
 -- what is printed after a refinement: the verdict's line, the class lines, and the line of the journal's numbers
-pub record IsRefinedText (pair : Pair) (c : Check) (entries : List Entry) (line text : List ℕ) : Type 0 where
+pub record IsRefinedText (pair : Pair) (c : CheckAsked) (entries : List Entry) (line text : List ℕ) : Type 0 where
   pub journal : IsJournalOf pair c entries
   pub lines : List ℕ
   pub are_classes : AreClassLines pair c lines
@@ -52,7 +52,7 @@ abbrev pub is_refined : ℕ → Bool
 is_refined status = not (status == 1)
 
 -- a certificate of the greatest correspondence's classes, where it is asked for
-abbrev pub IsCertOf : Pair → Check → List ℕ → Type 0
+abbrev pub IsCertOf : Pair → CheckAsked → List ℕ → Type 0
 IsCertOf pair c file = MatchBool (is_some c.cert)
     ((classes : Classes) × ArePartition (places_of pair) classes × AreOfGreatest pair c.k classes × IsCertificate pair c.k classes file × IsSupported pair file)
     (Unit {0})
@@ -64,16 +64,16 @@ pub record ShowsDifference (pair : Pair) (frame output : ℕ) (run : Path) : Typ
   pub first : IsFirstDifference pair run frame output
 
 -- what is printed of a verdict, its file, which is the trace in it, or a certificate, or nothing, and its journal
-abbrev pub IsVerdictText : Pair → Check → Verdict → List ℕ → List ℕ → Option Written → Type 0
+abbrev pub IsVerdictText : Pair → CheckAsked → Verdict → List ℕ → List ℕ → Option Written → Type 0
 IsVerdictText pair c (Equivalent n) text file journal = IsCertOf pair c file × IsSomeAnd journal (λ j. IsRefinedText pair c j.entries (equivalent_line c.k (places_of pair) n) text)
 IsVerdictText pair c (Undecided n u) text file journal = IsSomeAnd journal (λ j. IsRefinedText pair c j.entries (undecided_line c.k (places_of pair) n u) text)
 IsVerdictText pair c (Different t j) text file journal = (run : Path) × ShowsDifference pair t j run × (file ≡ trace_text j run) × (text ≡ different_line c.k t j ++ file)
 
 -- the verdict's status, text, file and journal
-abbrev pub IsVerdictAnswer : Pair → Check → ℕ → List ℕ → List ℕ → Option Written → Type 0
+abbrev pub IsVerdictAnswer : Pair → CheckAsked → ℕ → List ℕ → List ℕ → Option Written → Type 0
 IsVerdictAnswer pair c status text file journal = (v : Verdict) × IsVerdict pair c.k c.k v × (status ≡ status_of_verdict v) × IsVerdictText pair c v text file journal
 
-abbrev pub IsCheckAnswer : Pair → Check → Answer → Type 0
+abbrev pub IsCheckAnswer : Pair → CheckAsked → Answer → Type 0
 IsCheckAnswer pair c answer = IsVerdictAnswer pair c answer.status answer.text.items answer.file.items answer.journal
 
 abbrev pub IsReplayText : Path → Option (ℕ × ℕ) → Answer → Type 0
@@ -92,8 +92,8 @@ abbrev pub IsVerifyAnswer : Pair → List ℕ → Answer → Type 0
 IsVerifyAnswer pair bytes answer = IsSupported pair bytes × (answer.status ≡ 0) × (answer.text.items ≡ verified_line)
 
 -- a demo is checked as two files are, without class lines, numbers of entries and stored files
-abbrev pub check_of_demo : Demo → Check
-check_of_demo d = record { left = 0; right = 0; k = d.k; workers = d.workers; classes = false; stats = false; trace = None; cert = None }
+abbrev pub check_of_demo : Demo → CheckAsked
+check_of_demo d = record { left = []; right = []; k = d.k; workers = d.workers; classes = false; stats = false; trace = None; cert = None }
 
 -- the line of the demo, and then the verdict of its pair
 abbrev pub IsDemoAnswer : Demo → Answer → Type 0

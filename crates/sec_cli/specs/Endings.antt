@@ -12,11 +12,8 @@ use Rattle.trace_witness.specs.Lines.{lines_of}
 use Rattle.trace_witness.specs.Texts.{trace_of}
 use Rattle.refine_board.specs.Running.{Written}
 use Rattle.sec_cli.specs.Answers.{IsCheckAnswer, IsReplayAnswer, IsVerifyAnswer, IsDemoAnswer, is_refined}
-use Rattle.sec_cli.specs.Words.{word_at}
-use Rattle.sec_cli.specs.declared.words.Check.{Check}
-use Rattle.sec_cli.specs.declared.words.Demo.{Demo}
-use Rattle.sec_cli.specs.declared.words.Command.{Command}
-use Rattle.sec_cli.specs.declared.words.Command.TheVariants as commands
+use Rattle.command_line.specs.Asked.{Asked, ForCheck, ForReplay, ForVerify, ForDemo, CheckAsked}
+use Rattle.command_line.specs.declared.command.Demo.{Demo}
 use Rattle.sec_cli.specs.declared.ending.Answer.{Answer}
 use Rattle.sec_cli.specs.declared.ending.Refusal.{Refusal}
 use Rattle.sec_cli.specs.declared.ending.Refusal.TheVariants as refusals
@@ -85,26 +82,26 @@ IsNoPair left right (unpaired.InputsDiffer a b) = (pair : Pair) × AreAccepted l
 IsNoPair left right (unpaired.OutputsDiffer a b) = (pair : Pair) × AreAccepted left right pair × AreApart pair (unpaired.OutputsDiffer a b)
 
 -- the names of a command's files
-abbrev pub left_name : List (List ℕ) → Command → List ℕ
-left_name words (commands.Check c) = word_at words c.left
-left_name words (commands.Replay c) = word_at words c.left
-left_name words (commands.Verify c) = word_at words c.left
-left_name words (commands.Demo d) = []
+abbrev pub left_name : Asked → List ℕ
+left_name (ForCheck c) = c.left
+left_name (ForReplay c) = c.left
+left_name (ForVerify c) = c.left
+left_name (ForDemo d) = []
 
-abbrev pub right_name : List (List ℕ) → Command → List ℕ
-right_name words (commands.Check c) = word_at words c.right
-right_name words (commands.Replay c) = word_at words c.right
-right_name words (commands.Verify c) = word_at words c.right
-right_name words (commands.Demo d) = []
+abbrev pub right_name : Asked → List ℕ
+right_name (ForCheck c) = c.right
+right_name (ForReplay c) = c.right
+right_name (ForVerify c) = c.right
+right_name (ForDemo d) = []
 
-abbrev pub third_name : List (List ℕ) → Command → List ℕ
-third_name words (commands.Check c) = []
-third_name words (commands.Replay c) = word_at words c.trace
-third_name words (commands.Verify c) = word_at words c.cert
-third_name words (commands.Demo d) = []
+abbrev pub third_name : Asked → List ℕ
+third_name (ForCheck c) = []
+third_name (ForReplay c) = c.trace
+third_name (ForVerify c) = c.cert
+third_name (ForDemo d) = []
 
 -- how the check of two files ends
-abbrev pub IsCheckEnding : Option (List ℕ) → Option (List ℕ) → Check → Ending → Type 0
+abbrev pub IsCheckEnding : Option (List ℕ) → Option (List ℕ) → CheckAsked → Ending → Type 0
 IsCheckEnding left right c (Err refusals.Memory) = Unit {0}
 IsCheckEnding left right c (Err (refusals.Unpaired u)) = IsNoPair left right u
 IsCheckEnding left right c (Ok a) = (pair : Pair) × ArePair left right pair × IsCheckAnswer pair c a
@@ -144,22 +141,22 @@ IsDemoEnding d (Err (refusals.TraceRefused f)) = ⊥
 IsDemoEnding d (Err (refusals.CertRefused f)) = ⊥
 
 -- the answers of this status that come from a refinement
-abbrev pub refines : Command → ℕ → Bool
-refines (commands.Check c) status = is_refined status
-refines (commands.Replay c) status = false
-refines (commands.Verify c) status = false
-refines (commands.Demo d) status = is_refined status
+abbrev pub refines : Asked → ℕ → Bool
+refines (ForCheck c) status = is_refined status
+refines (ForReplay c) status = false
+refines (ForVerify c) status = false
+refines (ForDemo d) status = is_refined status
 
 abbrev pub journal_of : Ending → Option Written
 journal_of (Ok a) = a.journal
 journal_of (Err r) = None
 
--- how a run of these words, which are this command, ends over these files
-abbrev pub IsEnding : (List ℕ → Option (List ℕ)) → List (List ℕ) → Command → Ending → Type 0
-IsEnding file words (commands.Check c) e = IsCheckEnding (file (word_at words c.left)) (file (word_at words c.right)) c e
-IsEnding file words (commands.Replay c) e = IsReplayEnding (file (word_at words c.left)) (file (word_at words c.right)) (file (word_at words c.trace)) e
-IsEnding file words (commands.Verify c) e = IsVerifyEnding (file (word_at words c.left)) (file (word_at words c.right)) (file (word_at words c.cert)) e
-IsEnding file words (commands.Demo d) e = IsDemoEnding d e
+-- how a command ends over these files
+abbrev pub IsEnding : (List ℕ → Option (List ℕ)) → Asked → Ending → Type 0
+IsEnding file (ForCheck c) e = IsCheckEnding (file c.left) (file c.right) c e
+IsEnding file (ForReplay c) e = IsReplayEnding (file c.left) (file c.right) (file c.trace) e
+IsEnding file (ForVerify c) e = IsVerifyEnding (file c.left) (file c.right) (file c.cert) e
+IsEnding file (ForDemo d) e = IsDemoEnding d e
 
 abbrev pub unread_as : Side → Unread → Unpaired
 unread_as side unread.Failed = unpaired.LoadFailed side

@@ -1,4 +1,3 @@
-pub mod Words
 pub mod Stats
 pub mod Texts
 pub mod Outputs

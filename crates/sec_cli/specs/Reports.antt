@@ -1,5 +1,5 @@
 -- What a run writes, and the status that it ends with.
-use Rattle.std.specs.Prelude.{◌≡◌, ◌≢◌, ℕ, ◌==◌, ◌⊎◌, if◌then◌else◌, Bool, IsTrue, List, Option, None, Some, option_map, Ok, Err, codes}
+use Rattle.std.specs.Prelude.{◌≡◌, ◌≢◌, ℕ, ◌==◌, ◌⊎◌, if◌then◌else◌, Bool, IsTrue, List, Option, None, Some, Ok, Err, codes}
 use Rattle.sec_base.specs.Faults.{Rose, appended, IsCutShort}
 use Rattle.aiger_codec.specs.Lines.{fault}
 use Rattle.aiger_codec.specs.declared.fault.NetKind.TheVariants as kinds
@@ -10,9 +10,7 @@ use Rattle.sec_cli.specs.declared.ending.Side.{Side}
 use Rattle.sec_cli.specs.declared.ending.Side.TheVariants.{Left, Right}
 use Rattle.sec_cli.specs.declared.ending.Unpaired.{Unpaired}
 use Rattle.sec_cli.specs.declared.ending.Unpaired.TheVariants as unpaired
-use Rattle.sec_cli.specs.declared.words.Command.{Command}
-use Rattle.sec_cli.specs.declared.words.Command.TheVariants as commands
-use Rattle.sec_cli.specs.Words.{word_at}
+use Rattle.command_line.specs.Asked.{Asked, ForCheck, ForReplay, ForVerify, ForDemo}
 use Rattle.sec_cli.specs.Endings.{Ending, longest_third, left_name, right_name, third_name}
 use Rattle.sec_cli.specs.Texts.{fault_text, trace_fault_text, cert_fault_text, differ_text, read_failed_text, store_failed_text, write_failed_text, memory_text}
 
@@ -52,19 +50,19 @@ refusal_text left right trace refusals.ThirdTooLong = fault_text trace (fault ki
 refusal_text left right trace (refusals.TraceRefused f) = trace_fault_text trace f
 refusal_text left right trace (refusals.CertRefused f) = cert_fault_text trace f
 
-abbrev pub told_of : List (List ℕ) → Command → Refusal → List ℕ
-told_of words c r = refusal_text (left_name words c) (right_name words c) (third_name words c) r
+abbrev pub told_of : Asked → Refusal → List ℕ
+told_of c r = refusal_text (left_name c) (right_name c) (third_name c) r
 
 -- the sink took the text, or failed and took a part from its front
 abbrev pub IsTold : Option (List ℕ) → ℕ → List ℕ → Option (List ℕ) → ℕ → Type 0
 IsTold before faults text after now = (after ≡ appended before text) ⊎ (Rose faults now × IsCutShort before text after)
 
--- where the command stores the file of an answer of this status, by the place of the name
-abbrev pub store_place : Command → ℕ → Option ℕ
-store_place (commands.Check c) status = if status == 1 then c.trace else if status == 0 then c.cert else None
-store_place (commands.Replay c) status = None
-store_place (commands.Verify c) status = None
-store_place (commands.Demo d) status = None
+-- the name under which the command stores the file of an answer of this status, if any
+abbrev pub store_name : Asked → ℕ → Option (List ℕ)
+store_name (ForCheck c) status = if status == 1 then c.trace else if status == 0 then c.cert else None
+store_name (ForReplay c) status = None
+store_name (ForVerify c) status = None
+store_name (ForDemo d) status = None
 
 -- all files but this one stay
 abbrev pub OthersStay : (List ℕ → Option (List ℕ)) → (List ℕ → Option (List ℕ)) → List ℕ → Type 0
@@ -113,9 +111,6 @@ pub record IsOnlyTold (text : List ℕ) (before after : World) : Type 0 where
   pub kept : after.out ≡ before.out
   pub told : IsToldIn before after text
 
-abbrev pub name_at : List (List ℕ) → Option ℕ → Option (List ℕ)
-name_at words place = option_map (word_at words) place
-
 abbrev pub IsUnstoredAs : Option (List ℕ) → World → World → Type 0
 IsUnstoredAs None before after = ⊥
 IsUnstoredAs (Some name) before after = IsUnstored name before after
@@ -128,6 +123,6 @@ IsDelivery tells name a before after status =
     ⊎ ((status ≡ 7) × IsOnlyTold memory_text before after)
 
 -- what became of an ending
-abbrev pub IsReport : Bool → List (List ℕ) → Command → Ending → World → World → ℕ → Type 0
-IsReport tells words c (Ok a) before after status = IsDelivery tells (name_at words (store_place c a.status)) a before after status
-IsReport tells words c (Err r) before after status = (status ≡ refusal_status r) × IsOnlyTold (told_of words c r) before after
+abbrev pub IsReport : Bool → Asked → Ending → World → World → ℕ → Type 0
+IsReport tells c (Ok a) before after status = IsDelivery tells (store_name c a.status) a before after status
+IsReport tells c (Err r) before after status = (status ≡ refusal_status r) × IsOnlyTold (told_of c r) before after

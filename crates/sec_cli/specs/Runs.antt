@@ -1,54 +1,55 @@
--- What a run of plain words says, for each kind of status: the command, the files, and what was written.
-use Rattle.std.specs.Prelude.{◌≡◌, ℕ, ◌⊎◌, Bool, IsTrue, List, Option, is_some, Ok, Err}
+-- What a run of words that mean a command says, for each kind of status: the command, the files, and what was written.
+use Rattle.std.specs.Prelude.{◌≡◌, ℕ, ◌⊎◌, Bool, IsTrue, List, Option, None, Some, is_some, Ok, Err}
 use Rattle.sec_base.specs.Faults.{appended}
 use Rattle.refine_board.specs.Running.{Written}
 use Rattle.sec_cli.specs.declared.ending.Answer.{Answer}
 use Rattle.sec_cli.specs.declared.ending.Refusal.{Refusal}
-use Rattle.sec_cli.specs.declared.words.Command.{Command}
+use Rattle.command_line.specs.Asked.{Asked}
 use Rattle.sec_cli.specs.Endings.{Ending, IsEnding, refines, journal_of, left_name, right_name, third_name, failed_names}
-use Rattle.sec_cli.specs.Reports.{World, IsTold, IsStored, IsUnprinted, IsUnstoredAs, store_place, name_at, refusal_status, told_of}
+use Rattle.sec_cli.specs.Reports.{World, IsTold, IsStored, IsUnprinted, IsUnstoredAs, store_name, refusal_status, told_of}
 
 -- how the command ended, where the shelf tells its files
-abbrev pub Ended : Bool → (List ℕ → Option (List ℕ)) → List (List ℕ) → Command → Ending → Type 0
-Ended tells file words c e = IsTrue tells → IsEnding file words c e
+abbrev pub Ended : Bool → (List ℕ → Option (List ℕ)) → Asked → Ending → Type 0
+Ended tells file c e = IsTrue tells → IsEnding file c e
 
 -- the journal is that of the command's answer, and there is none where the command answered nothing
-abbrev pub IsJournalOfEnding : Bool → (List ℕ → Option (List ℕ)) → List (List ℕ) → Command → Option Written → Type 0
-IsJournalOfEnding tells file words c journal = (e : Ending) × Ended tells file words c e × (journal ≡ journal_of e)
+abbrev pub IsJournalOfEnding : Bool → (List ℕ → Option (List ℕ)) → Asked → Option Written → Type 0
+IsJournalOfEnding tells file c journal = (e : Ending) × Ended tells file c e × (journal ≡ journal_of e)
 
--- the name under which the file of an answer is stored, if any
-abbrev pub store_name : List (List ℕ) → Command → Answer → Option (List ℕ)
-store_name words c a = name_at words (store_place c a.status)
+-- the journal of words is that of an ending of the command that they mean, and there is none where they mean none
+abbrev pub IsJournalOfWords : Bool → (List ℕ → Option (List ℕ)) → Option Asked → Option Written → Type 0
+IsJournalOfWords tells file None journal = journal ≡ None
+IsJournalOfWords tells file (Some c) journal = IsJournalOfEnding tells file c journal
 
 -- the answer of the command was printed, its file stored where the command has a name for it, and its journal returned; and it is true of the files
-pub record IsAnswered (tells : Bool) (words : List (List ℕ)) (c : Command) (status : ℕ) (journal : Option Written) (before after : World) : Type 0 where
+pub record IsAnswered (tells : Bool) (c : Asked) (status : ℕ) (journal : Option Written) (before after : World) : Type 0 where
   pub answer : Answer
-  pub ended : Ended tells before.files words c (Ok answer)
+  pub ended : Ended tells before.files c (Ok answer)
   pub status_is : answer.status ≡ status
   pub journal_is : answer.journal ≡ journal
   pub refined : is_some journal ≡ refines c status
-  pub stored : IsStored tells before.files after.files (store_name words c answer) answer.file.items
+  pub stored : IsStored tells before.files after.files (store_name c answer.status) answer.file.items
   pub printed : after.out ≡ appended before.out answer.text.items
 
 -- a refusal was told, and is true of the files
-pub record IsRefused (tells : Bool) (words : List (List ℕ)) (c : Command) (before after : World) : Type 0 where
+pub record IsRefused (tells : Bool) (c : Asked) (before after : World) : Type 0 where
   pub refusal : Refusal
-  pub ended : Ended tells before.files words c (Err refusal)
+  pub ended : Ended tells before.files c (Err refusal)
   pub status_is : refusal_status refusal ≡ 4
-  pub told : IsTold before.err before.err_faults (told_of words c refusal) after.err after.err_faults
+  pub told : IsTold before.err before.err_faults (told_of c refusal) after.err after.err_faults
 
 -- a file could not be loaded: its name was added to those whose loads failed, and told; what stands before it in the order was accepted
-pub record IsUnread (tells : Bool) (words : List (List ℕ)) (c : Command) (names names_after : Option (List (List ℕ))) (before after : World) : Type 0 where
+pub record IsUnread (tells : Bool) (c : Asked) (names names_after : Option (List (List ℕ))) (before after : World) : Type 0 where
   pub refusal : Refusal
-  pub ended : Ended tells before.files words c (Err refusal)
+  pub ended : Ended tells before.files c (Err refusal)
   pub status_is : refusal_status refusal ≡ 5
-  pub name : names_after ≡ appended names (failed_names (left_name words c) (right_name words c) (third_name words c) (Err refusal))
-  pub told : IsTold before.err before.err_faults (told_of words c refusal) after.err after.err_faults
+  pub name : names_after ≡ appended names (failed_names (left_name c) (right_name c) (third_name c) (Err refusal))
+  pub told : IsTold before.err before.err_faults (told_of c refusal) after.err after.err_faults
 
 -- the answer of the command could not be stored, or not be printed; its journal is returned
-pub record IsUnwritten (tells : Bool) (words : List (List ℕ)) (c : Command) (journal : Option Written) (before after : World) : Type 0 where
+pub record IsUnwritten (tells : Bool) (c : Asked) (journal : Option Written) (before after : World) : Type 0 where
   pub answer : Answer
-  pub ended : Ended tells before.files words c (Ok answer)
+  pub ended : Ended tells before.files c (Ok answer)
   pub journal_is : answer.journal ≡ journal
   pub refined : is_some journal ≡ refines c answer.status
-  pub failed : IsUnprinted tells (store_name words c answer) answer before after ⊎ IsUnstoredAs (store_name words c answer) before after
+  pub failed : IsUnprinted tells (store_name c answer.status) answer before after ⊎ IsUnstoredAs (store_name c answer.status) before after

@@ -5,15 +5,16 @@ ghost use Rattle.circ_model.specs.Verdict.{AgreeBelow};
 ghost use Rattle.class_partition.specs.Classes.{ArePartition, AreOfGreatest};
 ghost use Rattle.class_partition.specs.Laws.{PairOutput};
 ghost use Rattle.induction_base.specs.Least.{IsShown};
+ghost use Rattle.command_line.specs.Asked.{check_asked};
 ghost use Rattle.sec_cli.specs.Outputs.{AreLeftOut};
 ghost use Rattle.sec_cli.specs.Answers.{AreClassLines, IsCertOf, IsCheckAnswer, IsJournalOf, IsRefinedText, is_refined, stats_lines};
 
 use crate::counting::stats_of;
 use crate::ending::Answer;
 use crate::lines::{different_line, equivalent_line, push_numbers, stats_line, undecided_head};
-use crate::words::Check;
 use class_partition::Classes;
 use class_text::push_class_lines;
+use command_line::Check;
 use corr_certificate::write_cert;
 use induction_base::{Diff, least_difference};
 use product_machine::Product;
@@ -51,7 +52,7 @@ fn push_classes(
 ) -> Result<(), AllocError>
     requires partition { ArePartition (places_of product.now) classes.now }
     requires greatest { AreOfGreatest product.now c.now.k classes.now }
-    ensures { OnOk result ((lines : List ℕ) × AreClassLines product.now c.now lines × (text.new.items ≡ text.old.items ++ lines)) }
+    ensures { OnOk result ((lines : List ℕ) × AreClassLines product.now (check_asked c.now) lines × (text.new.items ≡ text.old.items ++ lines)) }
 {
     if c.classes {
         push_class_lines(alloc, product, classes, text)?;
@@ -66,7 +67,7 @@ fn push_stats(
     journal: &Journal,
     text: &mut Vec<u8>,
 ) -> Result<(), AllocError>
-    ensures { OnOk result (text.new.items ≡ text.old.items ++ stats_lines c.now journal.now.entries) }
+    ensures { OnOk result (text.new.items ≡ text.old.items ++ stats_lines (check_asked c.now) journal.now.entries) }
 {
     if c.stats {
         let line = stats_line(alloc, stats_of(journal))?;
@@ -86,8 +87,8 @@ fn push_lines(
 ) -> Result<(), AllocError>
     requires partition { ArePartition (places_of product.now) classes.now }
     requires greatest { AreOfGreatest product.now c.now.k classes.now }
-    requires journal { IsJournalOf product.now c.now journal.now.entries }
-    ensures { OnOk result (IsRefinedText product.now c.now journal.now.entries text.old.items text.new.items) }
+    requires journal { IsJournalOf product.now (check_asked c.now) journal.now.entries }
+    ensures { OnOk result (IsRefinedText product.now (check_asked c.now) journal.now.entries text.old.items text.new.items) }
 {
     push_classes(alloc, product, c, classes, text)?;
     push_stats(alloc, c, journal, text)
@@ -104,11 +105,11 @@ fn answer_by(
     requires sound { IsSoundPair product.now }
     requires partition { ArePartition (places_of product.now) classes.now }
     requires greatest { AreOfGreatest product.now c.now.k classes.now }
-    requires journal { IsJournalOf product.now c.now journal.entries }
+    requires journal { IsJournalOf product.now (check_asked c.now) journal.entries }
     requires agree { AgreeBelow product.now c.now.k }
     requires some { 0 < c.now.k }
     requires few { c.now.k ≤ 16 }
-    ensures answer { IfOk result (IsCheckAnswer product.now c.now) }
+    ensures answer { IfOk result (IsCheckAnswer product.now (check_asked c.now)) }
     ensures status { IfOk result (λ a. a.status ≤ 2) }
     ensures journal { IfOk result (λ a. is_some a.journal ≡ is_refined a.status) }
 {
@@ -133,7 +134,7 @@ fn cert_of(
     requires paired { (j : ℕ) → j < outputs_of product.now → PairOutput product.now classes.now j }
     requires some { 0 < c.now.k }
     requires few { c.now.k ≤ 16 }
-    ensures { IfOk result (λ file. IsCertOf product.now c.now file.items) }
+    ensures { IfOk result (λ file. IsCertOf product.now (check_asked c.now) file.items) }
 {
     if c.cert.is_none() {
         return Ok(Vec::new(alloc));
@@ -153,11 +154,11 @@ fn equivalent(
     requires sound { IsSoundPair product.now }
     requires partition { ArePartition (places_of product.now) classes.now }
     requires greatest { AreOfGreatest product.now c.now.k classes.now }
-    requires journal { IsJournalOf product.now c.now journal.entries }
+    requires journal { IsJournalOf product.now (check_asked c.now) journal.entries }
     requires paired { (j : ℕ) → j < outputs_of product.now → PairOutput product.now classes.now j }
     requires some { 0 < c.now.k }
     requires few { c.now.k ≤ 16 }
-    ensures answer { IfOk result (IsCheckAnswer product.now c.now) }
+    ensures answer { IfOk result (IsCheckAnswer product.now (check_asked c.now)) }
     ensures status { IfOk result (λ a. a.status ≤ 2) }
     ensures journal { IfOk result (λ a. is_some a.journal ≡ is_refined a.status) }
 {
@@ -185,11 +186,11 @@ fn undecided(
     requires sound { IsSoundPair product.now }
     requires partition { ArePartition (places_of product.now) classes.now }
     requires greatest { AreOfGreatest product.now c.now.k classes.now }
-    requires journal { IsJournalOf product.now c.now journal.entries }
+    requires journal { IsJournalOf product.now (check_asked c.now) journal.entries }
     requires agree { AgreeBelow product.now c.now.k }
     requires some { outputs.now ≢ [] }
     requires left_out { AreLeftOut product.now classes.now (outputs_of product.now) outputs.now }
-    ensures answer { IfOk result (IsCheckAnswer product.now c.now) }
+    ensures answer { IfOk result (IsCheckAnswer product.now (check_asked c.now)) }
     ensures status { IfOk result (λ a. a.status ≤ 2) }
     ensures journal { IfOk result (λ a. is_some a.journal ≡ is_refined a.status) }
 {
@@ -209,7 +210,7 @@ fn undecided(
 // A run differs.
 fn different(alloc: Global, product: &Product, c: &Check, diff: &Diff) -> Result<Answer, AllocError>
     requires shown { IsShown product.now c.now.k diff.now }
-    ensures answer { IfOk result (IsCheckAnswer product.now c.now) }
+    ensures answer { IfOk result (IsCheckAnswer product.now (check_asked c.now)) }
     ensures status { IfOk result (λ a. a.status ≤ 2) }
     ensures journal { IfOk result (λ a. is_some a.journal ≡ is_refined a.status) }
 {
@@ -236,7 +237,7 @@ pub(crate) fn check_pair<R: Threads + Wait + Sync, G: Gate>(
     requires some { 0 < c.now.k }
     requires few { c.now.k ≤ 16 }
     requires workers { (0 < c.now.workers) × (c.now.workers ≤ 64) }
-    ensures answer { IfOk result (IsCheckAnswer product.now c.now) }
+    ensures answer { IfOk result (IsCheckAnswer product.now (check_asked c.now)) }
     ensures status { IfOk result (λ a. a.status ≤ 2) }
     ensures journal { IfOk result (λ a. is_some a.journal ≡ is_refined a.status) }
 {

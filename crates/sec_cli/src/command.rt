@@ -1,12 +1,14 @@
 // One run: its words, its files, and what is written of it.
-ghost use Rattle.std.specs.Prelude.{◌≡◌, ◌≢◌, ◌≤◌, ◌<◌, ℕ, List, [], ◌∷◌, length, IsTrue, IsSomeAnd, MatchBool, Contains, None, is_some, IfOk};
+ghost use Rattle.std.specs.Prelude.{◌≡◌, ◌≢◌, ◌≤◌, ◌<◌, ◌⊎◌, ℕ, List, [], ◌∷◌, IsTrue, IsSomeAnd, MatchBool, None, is_some, IfOk};
 ghost use Rattle.sec_base.specs.Faults.{Rose, appended};
+ghost use Rattle.command_line.specs.Asked.{asked_of, check_asked, IsDemoWithin, IsWithin};
+ghost use Rattle.command_line.specs.Meant.{meant};
+ghost use Rattle.command_line.specs.Plain.{texts};
 ghost use Rattle.sec_cli.specs.Answers.{is_refined};
-ghost use Rattle.sec_cli.specs.Words.{texts, command_of, word_at, AreWordsOf, IsCheckOf, IsDemoOf};
 ghost use Rattle.sec_cli.specs.Texts.{usage_text, memory_text};
 ghost use Rattle.sec_cli.specs.Endings.{Ending, IsCheckEnding, IsReplayEnding, IsVerifyEnding, IsDemoEnding, IsEnding, IsLoadEnding, refines, journal_of, failed_names, left_name, right_name, third_name};
 ghost use Rattle.sec_cli.specs.Reports.{IsTold, IsReport, refusal_status, told_of};
-ghost use Rattle.sec_cli.specs.Runs.{IsAnswered, IsJournalOfEnding, IsRefused, IsUnread, IsUnwritten};
+ghost use Rattle.sec_cli.specs.Runs.{IsAnswered, IsJournalOfWords, IsRefused, IsUnread, IsUnwritten};
 
 use crate::checking::check_pair;
 use crate::delivering::deliver;
@@ -16,7 +18,7 @@ use crate::loading::load_pair;
 use crate::replaying::replay;
 use crate::telling::{refusal_status, tell, tell_refusal};
 use crate::verifying::verify_file;
-use crate::words::{Check, Command, Demo, command_of};
+use command_line::{Check, Command, Demo, Unread, read_words};
 use refine_board::Journal;
 use sec_base::{Gate, Shelf, Sink};
 use std::alloc::Global;
@@ -49,7 +51,7 @@ fn check_files<R: Threads + Wait + Sync, S: Shelf, G: Gate>(
     requires some { 0 < c.now.k }
     requires few { c.now.k ≤ 16 }
     requires workers { (0 < c.now.workers) × (c.now.workers ≤ 64) }
-    ensures ending { IsTrue S.tells → IsCheckEnding (S.file shelf.old left.now) (S.file shelf.old right.now) c.now result }
+    ensures ending { IsTrue S.tells → IsCheckEnding (S.file shelf.old left.now) (S.file shelf.old right.now) (check_asked c.now) result }
     ensures status { IfOk result (λ a. a.status ≤ 2) }
     ensures journal { IfOk result (λ a. is_some a.journal ≡ is_refined a.status) }
     ensures failed { IsLoadEnding result → Rose (S.load_faults shelf.old) (S.load_faults shelf.new) }
@@ -120,7 +122,7 @@ fn demo_ending<R: Threads + Wait + Sync, G: Gate>(
     d: &Demo,
     gate: &G,
 ) -> Result<Answer, Refusal>
-    requires { IsDemoOf d.now }
+    requires { IsDemoWithin d.now }
     ensures ending { IsDemoEnding d.now result }
     ensures status { IfOk result (λ a. a.status ≤ 2) }
     ensures journal { IfOk result (λ a. is_some a.journal ≡ is_refined a.status) }
@@ -138,88 +140,46 @@ fn decide<R: Threads + Wait + Sync, S: Shelf, G: Gate>(
     rt: &R,
     alloc: Global,
     shelf: &mut S,
-    words: &[String],
     command: Command,
     gate: &G,
 ) -> Result<Answer, Refusal>
-    requires words { AreWordsOf (length words.now) command }
-    ensures ending { IsTrue S.tells → IsEnding (S.file shelf.old) (texts words.now) command result }
+    requires { IsWithin (asked_of command) }
+    ensures ending { IsTrue S.tells → IsEnding (S.file shelf.old) (asked_of command.entry) result }
     ensures status { IfOk result (λ a. a.status ≤ 2) }
-    ensures journal { IfOk result (λ a. is_some a.journal ≡ refines command a.status) }
+    ensures journal { IfOk result (λ a. is_some a.journal ≡ refines (asked_of command.entry) a.status) }
     ensures failed { IsLoadEnding result → Rose (S.load_faults shelf.old) (S.load_faults shelf.new) }
     ensures files { S.file shelf.new ≡ S.file shelf.old }
-    ensures names { S.failed shelf.new ≡ appended (S.failed shelf.old) (failed_names (left_name (texts words.now) command) (right_name (texts words.now) command) (third_name (texts words.now) command) result) }
+    ensures names { S.failed shelf.new ≡ appended (S.failed shelf.old) (failed_names (left_name (asked_of command.entry)) (right_name (asked_of command.entry)) (third_name (asked_of command.entry)) result) }
     ensures load_count { S.load_faults shelf.old ≤ S.load_faults shelf.new }
     ensures store_count { S.store_faults shelf.new ≡ S.store_faults shelf.old }
 {
     match command {
-        Command::Check(c) => {
-            check_files(
-                rt,
-                alloc,
-                shelf,
-                words[c.left].as_str(),
-                words[c.right].as_str(),
-                &c,
-                gate,
-            )
-        }
-        Command::Replay(c) => replay_files(
-            alloc,
-            shelf,
-            words[c.left].as_str(),
-            words[c.right].as_str(),
-            words[c.trace].as_str(),
-        ),
-        Command::Verify(c) => verify_files(
-            alloc,
-            shelf,
-            words[c.left].as_str(),
-            words[c.right].as_str(),
-            words[c.cert].as_str(),
-        ),
+        Command::Check(c) => { check_files(rt, alloc, shelf, c.left, c.right, &c, gate) }
+        Command::Replay(c) => replay_files(alloc, shelf, c.left, c.right, c.trace),
+        Command::Verify(c) => verify_files(alloc, shelf, c.left, c.right, c.cert),
         Command::Demo(d) => demo_ending(rt, alloc, &d, gate),
     }
 }
 
 // Tells why a command answers nothing.
-fn refuse<E: Sink>(words: &[String], command: Command, refusal: Refusal, err: &mut E) -> u8
-    requires words { AreWordsOf (length words.now) command }
+fn refuse<E: Sink>(command: Command, refusal: Refusal, err: &mut E) -> u8
     ensures status { result ≡ refusal_status refusal }
-    ensures told { IsTold (E.taken err.old) (E.faults err.old) (told_of (texts words.now) command refusal) (E.taken err.new) (E.faults err.new) }
+    ensures told { IsTold (E.taken err.old) (E.faults err.old) (told_of (asked_of command.entry) refusal) (E.taken err.new) (E.faults err.new) }
     ensures count { E.faults err.old ≤ E.faults err.new }
 {
     match command {
         Command::Check(c) => {
-            tell_refusal(
-                err,
-                words[c.left].as_str(),
-                words[c.right].as_str(),
-                "",
-                refusal,
-            );
+            tell_refusal(err, c.left, c.right, "", refusal);
             refusal_status(refusal)
         }
         Command::Replay(c) => {
-            let trace = words[c.trace].as_str();
-            tell_refusal(
-                err,
-                words[c.left].as_str(),
-                words[c.right].as_str(),
-                trace,
-                refusal,
-            );
+            let trace = c.trace;
+            tell_refusal(err, c.left, c.right, trace, refusal);
             refusal_status(refusal)
         }
         Command::Verify(c) => {
-            let cert = words[c.cert].as_str();
-            tell_refusal(
-                err,
-                words[c.left].as_str(),
-                words[c.right].as_str(),
-                cert,
-                refusal,
-            );
+            let cert = c.cert;
+            tell_refusal(err, c.left, c.right, cert, refusal);
             refusal_status(refusal)
         }
         Command::Demo(_) => {
@@ -233,19 +193,18 @@ fn refuse<E: Sink>(words: &[String], command: Command, refusal: Refusal, err: &m
 fn perform<R: Threads + Wait + Sync, S: Shelf, O: Sink, E: Sink, G: Gate>(
     rt: &R,
     alloc: Global,
-    words: &[String],
     command: Command,
     shelf: &mut S,
     out: &mut O,
     err: &mut E,
     gate: &G,
 ) -> Report
-    requires words { AreWordsOf (length words.now) command }
-    ensures reported { (e : Ending) × (IsTrue S.tells → IsEnding (S.file shelf.old) (texts words.now) command e) × IfOk e (λ a. a.status ≤ 2)
-        × IfOk e (λ a. is_some a.journal ≡ refines command a.status) × (result.journal ≡ journal_of e)
+    requires { IsWithin (asked_of command) }
+    ensures reported { (e : Ending) × (IsTrue S.tells → IsEnding (S.file shelf.old) (asked_of command.entry) e) × IfOk e (λ a. a.status ≤ 2)
+        × IfOk e (λ a. is_some a.journal ≡ refines (asked_of command.entry) a.status) × (result.journal ≡ journal_of e)
         × (IsLoadEnding e → Rose (S.load_faults shelf.old) (S.load_faults shelf.new))
-        × (S.failed shelf.new ≡ appended (S.failed shelf.old) (failed_names (left_name (texts words.now) command) (right_name (texts words.now) command) (third_name (texts words.now) command) e))
-        × IsReport S.tells (texts words.now) command e
+        × (S.failed shelf.new ≡ appended (S.failed shelf.old) (failed_names (left_name (asked_of command.entry)) (right_name (asked_of command.entry)) (third_name (asked_of command.entry)) e))
+        × IsReport S.tells (asked_of command.entry) e
         (record { files = S.file shelf.old; store_faults = S.store_faults shelf.old; out = O.taken out.old; out_faults = O.faults out.old; err = E.taken err.old; err_faults = E.faults err.old })
         (record { files = S.file shelf.new; store_faults = S.store_faults shelf.new; out = O.taken out.new; out_faults = O.faults out.new; err = E.taken err.new; err_faults = E.faults err.new }) result.status }
     ensures load_count { S.load_faults shelf.old ≤ S.load_faults shelf.new }
@@ -253,14 +212,14 @@ fn perform<R: Threads + Wait + Sync, S: Shelf, O: Sink, E: Sink, G: Gate>(
     ensures out_count { O.faults out.old ≤ O.faults out.new }
     ensures err_count { E.faults err.old ≤ E.faults err.new }
 {
-    match decide(rt, alloc, shelf, words, command, gate) {
+    match decide(rt, alloc, shelf, command, gate) {
         Ok(answer) => {
-            let status = deliver(words, command, &answer, shelf, out, err);
+            let status = deliver(command, &answer, shelf, out, err);
             let Answer { journal, .. } = answer;
             Report { status, journal }
         }
         Err(refusal) => {
-            let status = refuse(words, command, refusal, err);
+            let status = refuse(command, refusal, err);
             Report {
                 status,
                 journal: None,
@@ -285,35 +244,35 @@ pub fn run<R: Threads + Wait + Sync, S: Shelf, O: Sink, E: Sink, G: Gate>(
     err: &mut E,
     gate: &G,
 ) -> Report
-    // Words that aren't plain answer 3, and no other words do.
-    ensures usage { MatchBool (is_some (command_of (texts words.now))) (result.status ≢ 3) (result.status ≡ 3) }
+    // Words that mean no command answer 3, but for want of memory, and no other words do.
+    ensures usage { MatchBool (is_some (meant (texts words.now))) (result.status ≢ 3) ((result.status ≡ 3) ⊎ (result.status ≡ 7)) }
     ensures told_usage { result.status ≡ 3 → IsTold (E.taken err.old) (E.faults err.old) usage_text (E.taken err.new) (E.faults err.new) }
     ensures status { result.status ≤ 7 }
 
     // The headline: what is printed is what the command answers for the files, and what it stores is what it prints. The
     // numbers of `--stats` are those of the returned journal, which is that of the refinement.
-    ensures answered { result.status ≤ 2 → IsSomeAnd (command_of (texts words.now)) (λ c. IsAnswered S.tells (texts words.now) c result.status result.journal
+    ensures answered { result.status ≤ 2 → IsSomeAnd (meant (texts words.now)) (λ c. IsAnswered S.tells c result.status result.journal
         (record { files = S.file shelf.old; store_faults = S.store_faults shelf.old; out = O.taken out.old; out_faults = O.faults out.old; err = E.taken err.old; err_faults = E.faults err.old })
         (record { files = S.file shelf.new; store_faults = S.store_faults shelf.new; out = O.taken out.new; out_faults = O.faults out.new; err = E.taken err.new; err_faults = E.faults err.new })) }
 
     // A refusal is true of the files, and told.
-    ensures refused { result.status ≡ 4 → IsSomeAnd (command_of (texts words.now)) (λ c. IsRefused S.tells (texts words.now) c
+    ensures refused { result.status ≡ 4 → IsSomeAnd (meant (texts words.now)) (λ c. IsRefused S.tells c
         (record { files = S.file shelf.old; store_faults = S.store_faults shelf.old; out = O.taken out.old; out_faults = O.faults out.old; err = E.taken err.old; err_faults = E.faults err.old })
         (record { files = S.file shelf.new; store_faults = S.store_faults shelf.new; out = O.taken out.new; out_faults = O.faults out.new; err = E.taken err.new; err_faults = E.faults err.new })) }
 
     // Reading fails only where the shelf did, and writing only where the shelf or the sink did.
     ensures load_rose { result.status ≡ 5 → Rose (S.load_faults shelf.old) (S.load_faults shelf.new) }
-    ensures unread { result.status ≡ 5 → IsSomeAnd (command_of (texts words.now)) (λ c. IsUnread S.tells (texts words.now) c (S.failed shelf.old) (S.failed shelf.new)
+    ensures unread { result.status ≡ 5 → IsSomeAnd (meant (texts words.now)) (λ c. IsUnread S.tells c (S.failed shelf.old) (S.failed shelf.new)
         (record { files = S.file shelf.old; store_faults = S.store_faults shelf.old; out = O.taken out.old; out_faults = O.faults out.old; err = E.taken err.old; err_faults = E.faults err.old })
         (record { files = S.file shelf.new; store_faults = S.store_faults shelf.new; out = O.taken out.new; out_faults = O.faults out.new; err = E.taken err.new; err_faults = E.faults err.new })) }
-    ensures unwritten { result.status ≡ 6 → IsSomeAnd (command_of (texts words.now)) (λ c. IsUnwritten S.tells (texts words.now) c result.journal
+    ensures unwritten { result.status ≡ 6 → IsSomeAnd (meant (texts words.now)) (λ c. IsUnwritten S.tells c result.journal
         (record { files = S.file shelf.old; store_faults = S.store_faults shelf.old; out = O.taken out.old; out_faults = O.faults out.old; err = E.taken err.old; err_faults = E.faults err.old })
         (record { files = S.file shelf.new; store_faults = S.store_faults shelf.new; out = O.taken out.new; out_faults = O.faults out.new; err = E.taken err.new; err_faults = E.faults err.new })) }
     ensures told_memory { result.status ≡ 7 → IsTold (E.taken err.old) (E.faults err.old) memory_text (E.taken err.new) (E.faults err.new) }
 
     // Without an answer there is no journal. Want of memory comes before or after it.
     ensures no_journal { 3 ≤ result.status → result.status ≤ 5 → result.journal ≡ None }
-    ensures last_journal { result.status ≡ 7 → IsSomeAnd (command_of (texts words.now)) (λ c. IsJournalOfEnding S.tells (S.file shelf.old) (texts words.now) c result.journal) }
+    ensures last_journal { result.status ≡ 7 → IsJournalOfWords S.tells (S.file shelf.old) (meant (texts words.now)) result.journal }
 
     // What else stays.
     ensures out_stays { 3 ≤ result.status → result.status ≢ 6 → O.taken out.new ≡ O.taken out.old }
@@ -325,14 +284,21 @@ pub fn run<R: Threads + Wait + Sync, S: Shelf, O: Sink, E: Sink, G: Gate>(
     ensures out_count { O.faults out.old ≤ O.faults out.new }
     ensures err_count { E.faults err.old ≤ E.faults err.new }
 {
-    match command_of(words) {
-        None => {
+    match read_words(alloc, words) {
+        Ok(command) => perform(rt, alloc, command, shelf, out, err, gate),
+        Err(Unread::NotACommand) => {
             tell(err, USAGE.as_bytes());
             Report {
                 status: 3,
                 journal: None,
             }
         }
-        Some(command) => perform(rt, alloc, words, command, shelf, out, err, gate),
+        Err(Unread::Memory) => {
+            tell(err, b"sec: out of memory\n");
+            Report {
+                status: 7,
+                journal: None,
+            }
+        }
     }
 }

@@ -1,13 +1,13 @@
 // What becomes of an answer: its file is stored, where the command has a name for that, and then its text is printed.
-ghost use Rattle.std.specs.Prelude.{◌≡◌, ◌≤◌, ◌⊎◌, Option, Some, length};
+ghost use Rattle.std.specs.Prelude.{◌≡◌, ◌≤◌, ◌⊎◌, Option, Some, option_map};
 ghost use Rattle.sec_base.specs.Faults.{Rose, appended, IsCutShort};
-ghost use Rattle.sec_cli.specs.Words.{texts, AreWordsOf};
-ghost use Rattle.sec_cli.specs.Reports.{IsDelivery, IsTold, name_at, store_place};
+ghost use Rattle.command_line.specs.Asked.{asked_of};
+ghost use Rattle.sec_cli.specs.Reports.{IsDelivery, IsTold, store_name};
 ghost use Rattle.sec_cli.specs.Texts.{write_failed_text};
 
 use crate::ending::Answer;
 use crate::telling::{tell, tell_unstored};
-use crate::words::Command;
+use command_line::Command;
 use sec_base::{Failed, Shelf, Sink, StoreFault, write_text};
 
 // Prints a text, and answers the status, or 6 where that fails.
@@ -59,9 +59,9 @@ fn store_and_print<S: Shelf, O: Sink, E: Sink>(
     }
 }
 
-// The place of the name under which a command stores the file of an answer of this status.
-fn store_place(command: Command, status: u8) -> Option<usize>
-    ensures { result ≡ store_place command status }
+// The name under which a command stores the file of an answer of this status.
+fn store_name<'w>(command: Command<'w>, status: u8) -> Option<&'w str>
+    ensures { option_map (λ n. n.now) result ≡ store_name (asked_of command.entry) status }
 {
     match command {
         Command::Check(c) => {
@@ -79,16 +79,14 @@ fn store_place(command: Command, status: u8) -> Option<usize>
 
 /// Stores the file of an answer, where the command has a name for it, and prints the text. Answers the status of the run.
 pub(crate) fn deliver<S: Shelf, O: Sink, E: Sink>(
-    words: &[String],
     command: Command,
     answer: &Answer,
     shelf: &mut S,
     out: &mut O,
     err: &mut E,
 ) -> u8
-    requires status { answer.now.status ≤ 2 }
-    requires words { AreWordsOf (length words.now) command }
-    ensures delivered { IsDelivery S.tells (name_at (texts words.now) (store_place command answer.now.status)) answer.now
+    requires { answer.now.status ≤ 2 }
+    ensures delivered { IsDelivery S.tells (store_name (asked_of command.entry) answer.now.status) answer.now
         (record { files = S.file shelf.old; store_faults = S.store_faults shelf.old; out = O.taken out.old; out_faults = O.faults out.old; err = E.taken err.old; err_faults = E.faults err.old })
         (record { files = S.file shelf.new; store_faults = S.store_faults shelf.new; out = O.taken out.new; out_faults = O.faults out.new; err = E.taken err.new; err_faults = E.faults err.new }) result }
     ensures names { S.failed shelf.new ≡ S.failed shelf.old }
@@ -97,8 +95,8 @@ pub(crate) fn deliver<S: Shelf, O: Sink, E: Sink>(
     ensures out_count { O.faults out.old ≤ O.faults out.new }
     ensures err_count { E.faults err.old ≤ E.faults err.new }
 {
-    match store_place(command, answer.status) {
-        Some(place) => store_and_print(answer, words[place].as_str(), shelf, out, err),
+    match store_name(command, answer.status) {
+        Some(name) => store_and_print(answer, name, shelf, out, err),
         None => print(answer.text.as_slice(), answer.status, out, err),
     }
 }

@@ -2,13 +2,13 @@
 ghost use Rattle.std.specs.Prelude.{◌≤◌, ◌≡◌, IfOk, is_some};
 ghost use Rattle.circ_model.specs.Meaning.{IsSoundPair};
 ghost use Rattle.demo_pair.specs.Demo.{IsDemo};
+ghost use Rattle.command_line.specs.Asked.{IsDemoWithin, check_asked};
 ghost use Rattle.sec_cli.specs.Answers.{IsDemoAnswer, check_of_demo, is_refined};
-ghost use Rattle.sec_cli.specs.Words.{IsDemoOf};
 
 use crate::checking::check_pair;
 use crate::ending::Answer;
 use crate::lines::demo_line;
-use crate::words::{Check, Demo};
+use command_line::{Check, Demo};
 use demo_pair::make_demo;
 use product_machine::Product;
 use sec_base::Gate;
@@ -29,12 +29,12 @@ fn demo_product(alloc: Global, n: u32) -> Result<Product, AllocError>
 }
 
 // The check of a demo's pair.
-fn check_of(d: &Demo) -> Check
-    ensures { result ≡ check_of_demo d.now }
+fn check_of(d: &Demo) -> Check<'static>
+    ensures { check_asked result ≡ check_of_demo d.now }
 {
     Check {
-        left: 0,
-        right: 0,
+        left: "",
+        right: "",
         k: d.k,
         workers: d.workers,
         classes: false,
@@ -51,7 +51,7 @@ pub(crate) fn demo_answer<R: Threads + Wait + Sync, G: Gate>(
     d: &Demo,
     gate: &G,
 ) -> Result<Answer, AllocError>
-    requires { IsDemoOf d.now }
+    requires { IsDemoWithin d.now }
     ensures answer { IfOk result (IsDemoAnswer d.now) }
     ensures status { IfOk result (λ a. a.status ≤ 2) }
     ensures journal { IfOk result (λ a. is_some a.journal ≡ is_refined a.status) }

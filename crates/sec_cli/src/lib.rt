@@ -1,4 +1,4 @@
-//! The program `sec` but for its `main`: the words of a run, the files, the answers, the texts.
+//! The program `sec` but for its `main`: the files, the answers, the texts.
 #![tactic(auto)]
 
 mod checking;
@@ -17,11 +17,9 @@ mod replaying;
 mod telling;
 mod texts;
 mod verifying;
-mod words;
 
 pub use command::{Report, run};
 pub use ending::{Answer, Refusal, Side, Unpaired};
-pub use words::{Check, Command, Demo, Replay, Verify};
 
 #[cfg(test)]
 mod tests;

@@ -546,12 +546,16 @@ fn words_that_are_no_command(rt: HostRuntime) -> Result<(), Fail> {
         "usage: sec check LEFT RIGHT [-k K] [-j J] [--classes] [--stats] [--trace FILE] [--cert FILE]\n       sec replay LEFT RIGHT TRACE\n       sec verify LEFT RIGHT CERT\n       sec demo N [-k K] [-j J]\n";
     for words in [
         "sec",
+        "sec help",
+        "sec --help",
+        "sec check left right -h",
+        "sec --version",
         "sec check left",
         "sec check left right more",
         "sec check left right -k",
         "sec check left right -k 0",
         "sec check left right -k 17",
-        "sec check left right -k 02",
+        "sec check left right -k17",
         "sec check left right -k 1 -k 1",
         "sec check left right -j 65",
         "sec check left right --classes --classes",
@@ -567,7 +571,6 @@ fn words_that_are_no_command(rt: HostRuntime) -> Result<(), Fail> {
         "sec demo 1 --cert a",
         "sec proof left right",
         "sec demo",
-        "sec demo 01",
         "sec demo 100001",
         "sec demo 1 2",
         "sec demo 1 --classes",
@@ -576,6 +579,28 @@ fn words_that_are_no_command(rt: HostRuntime) -> Result<(), Fail> {
         "sec demo -k 1",
     ] {
         assert!(rt; answers_so(&rt, alloc, &case(words, TOGGLE, TOGGLE, 3, "", usage))?);
+    }
+    Ok(())
+}
+
+#[test]
+fn other_spellings_mean_the_same(rt: HostRuntime) -> Result<(), Fail> {
+    let alloc = rt.alloc();
+    let different = "different k=2 frame=1 output=0\n1\nb0\n0\n\n\n.\n";
+    for words in [
+        "sec check left right -k 2 --trace made",
+        "sec check left right -k2 --trace=made",
+        "sec check --trace=made -k=2 -- left right",
+        "sec check left right -k 02 --trace made",
+    ] {
+        let row = case(words, TOGGLE, LOW, 1, different, "");
+        let shelf = run_so(&rt, alloc, &row, Vec::new(alloc), Vec::new(alloc))?;
+        assert!(rt; holds(&shelf, "made", b"1\nb0\n0\n\n\n.\n"));
+    }
+    let demo =
+        "demo n=2 inputs=2 latches=2 gates=12 outputs=2\nequivalent k=1 signals=31 classes=9\n";
+    for words in ["sec demo 2", "sec demo 02", "sec demo +2 -j1"] {
+        assert!(rt; answers_so(&rt, alloc, &case(words, "", "", 0, demo, ""))?);
     }
     Ok(())
 }

@@ -1,6 +1,6 @@
 use Rattle.std.proofs.Common.{◌∙◌, refl, Ok, Err}
-use Rattle.sec_cli.specs.Words.{texts}
-use Rattle.sec_cli.specs.Reports.{World, IsDelivery, store_place, name_at}
+use Rattle.command_line.specs.Asked.{asked_of}
+use Rattle.sec_cli.specs.Reports.{World, IsDelivery, store_name}
 use Rattle.sec_cli.proofs.Concluding.{moved}
 use Rattle.sec_cli.proofs.command.perform.Goals as goal
 
@@ -16,7 +16,7 @@ returns-in-Ok-clause-reported g c =
       refl,
       λ h. absurd h,
       c.deliver-status.ensures.names ∙ d.ensures.names,
-      moved (λ before. IsDelivery g.S.Shelf.tells (name_at (texts c.args.words.now) (store_place c.args.command d.answer.status)) d.answer before after t.result) _ _ _ _ _ _ _ _ d.ensures.files d.ensures.store_count c.deliver-status.ensures.delivered,
+      moved (λ before. IsDelivery g.S.Shelf.tells (store_name (asked_of c.args.command) d.answer.status) d.answer before after t.result) _ _ _ _ _ _ _ _ d.ensures.files d.ensures.store_count c.deliver-status.ensures.delivered,
     )
 
 pub returns-in-Err-clause-reported : goal.returns-in-Err-clause-reported

@@ -1,14 +1,11 @@
 -- The words of a run that are plain: the program's name, a command, the names of its files, and among them its options, each at
--- most once. A name stands as its place among the words.
-use Rattle.std.specs.Prelude.{◌<◌, ◌≤◌, ℕ, ◌+◌, ◌==◌, ltb, leb, ◌&&◌, ◌||◌, IfSome, Bool, true, false, not, if◌then◌else◌, List, [], ◌∷◌, length, drop, slice_index_or, codes, bytes_eq, String, map, string_bytes, Option, None, Some, is_none, is_some, unwrap_or}
+-- most once. While the words are read a name stands as its place among them.
+use Rattle.std.specs.Prelude.{◌<◌, ◌≤◌, ℕ, ◌+◌, ◌==◌, ltb, leb, ◌&&◌, ◌||◌, IfSome, Bool, true, false, not, if◌then◌else◌, List, [], ◌∷◌, length, drop, slice_index_or, codes, bytes_eq, String, map, string_bytes, Option, None, Some, is_none, is_some, option_map, unwrap_or}
 use Rattle.aiger_codec.specs.Numbers.{number_at}
-use Rattle.sec_cli.specs.declared.words.Check.{Check}
-use Rattle.sec_cli.specs.declared.words.Demo.{Demo}
-use Rattle.sec_cli.specs.declared.words.Command.{Command}
-use Rattle.sec_cli.specs.declared.words.Command.TheVariants as commands
-use Rattle.sec_cli.specs.declared.words.Waiting.{Waiting}
-use Rattle.sec_cli.specs.declared.words.Waiting.TheVariants.{Nothing, Depth, Workers, Trace, Cert}
-use Rattle.sec_cli.specs.declared.words.Reading.{Reading}
+use Rattle.command_line.specs.Asked.{Asked, ForCheck, ForReplay, ForVerify, ForDemo}
+use Rattle.command_line.specs.declared.plain.Waiting.{Waiting}
+use Rattle.command_line.specs.declared.plain.Waiting.TheVariants.{Nothing, Depth, Workers, Trace, Cert}
+use Rattle.command_line.specs.declared.plain.Reading.{Reading}
 
 -- a name is a nonempty word that doesn't begin with `-`
 abbrev pub is_name : List ℕ → Bool
@@ -88,19 +85,27 @@ read_all (Some r) at [] = Some r
 read_all (Some r) at (w ∷ ws) = read_all (step r at w) (at + 1) ws
 
 -- two names and the options are `check`
-abbrev pub check_read : Option ℕ → Option ℕ → Option ℕ → Waiting → Reading → Option Command
-check_read (Some left) (Some right) None Nothing r =
-    Some (commands.Check (record { left = left; right = right; k = unwrap_or r.k 1; workers = unwrap_or r.workers 1; classes = r.classes; stats = r.stats; trace = r.trace; cert = r.cert }))
-check_read first second third waiting r = None
+abbrev pub check_read : List (List ℕ) → Option ℕ → Option ℕ → Option ℕ → Waiting → Reading → Option Asked
+check_read words (Some left) (Some right) None Nothing r = Some (ForCheck (record {
+  left = word_at words left;
+  right = word_at words right;
+  k = unwrap_or r.k 1;
+  workers = unwrap_or r.workers 1;
+  classes = r.classes;
+  stats = r.stats;
+  trace = option_map (word_at words) r.trace;
+  cert = option_map (word_at words) r.cert;
+}))
+check_read words first second third waiting r = None
 
-abbrev pub check_of : Option Reading → Option Command
-check_of None = None
-check_of (Some r) = check_read r.first r.second r.third r.waiting r
+abbrev pub check_of : List (List ℕ) → Option Reading → Option Asked
+check_of words None = None
+check_of words (Some r) = check_read words r.first r.second r.third r.waiting r
 
 -- three names alone are `replay`
-abbrev pub replay_read : Option ℕ → Option ℕ → Option ℕ → Waiting → Option Command
-replay_read (Some left) (Some right) (Some trace) Nothing = Some (commands.Replay (record { left = left; right = right; trace = trace }))
-replay_read first second third waiting = None
+abbrev pub replay_read : List (List ℕ) → Option ℕ → Option ℕ → Option ℕ → Waiting → Option Asked
+replay_read words (Some left) (Some right) (Some trace) Nothing = Some (ForReplay (record { left = word_at words left; right = word_at words right; trace = word_at words trace }))
+replay_read words first second third waiting = None
 
 -- options that `check` alone has
 abbrev pub has_check_options : Reading → Bool
@@ -109,44 +114,48 @@ has_check_options r = r.classes || (r.stats || (is_some r.trace || is_some r.cer
 abbrev pub has_options : Reading → Bool
 has_options r = is_some r.k || (is_some r.workers || has_check_options r)
 
-abbrev pub replay_of : Option Reading → Option Command
-replay_of None = None
-replay_of (Some r) = if has_options r then None else replay_read r.first r.second r.third r.waiting
+abbrev pub replay_of : List (List ℕ) → Option Reading → Option Asked
+replay_of words None = None
+replay_of words (Some r) = if has_options r then None else replay_read words r.first r.second r.third r.waiting
 
 -- and so is `verify`
-abbrev pub verify_read : Option ℕ → Option ℕ → Option ℕ → Waiting → Option Command
-verify_read (Some left) (Some right) (Some cert) Nothing = Some (commands.Verify (record { left = left; right = right; cert = cert }))
-verify_read first second third waiting = None
+abbrev pub verify_read : List (List ℕ) → Option ℕ → Option ℕ → Option ℕ → Waiting → Option Asked
+verify_read words (Some left) (Some right) (Some cert) Nothing = Some (ForVerify (record { left = word_at words left; right = word_at words right; cert = word_at words cert }))
+verify_read words first second third waiting = None
 
-abbrev pub verify_of : Option Reading → Option Command
-verify_of None = None
-verify_of (Some r) = if has_options r then None else verify_read r.first r.second r.third r.waiting
+abbrev pub verify_of : List (List ℕ) → Option Reading → Option Asked
+verify_of words None = None
+verify_of words (Some r) = if has_options r then None else verify_read words r.first r.second r.third r.waiting
 
 -- a size: 0, or a number up to 100000
 abbrev pub size_of : List ℕ → Option ℕ
 size_of word = if bytes_eq word (codes "0") then Some 0 else number_of 100000 word
 
-abbrev pub demo_sized : Reading → Option ℕ → Option Command
+abbrev pub demo_sized : Reading → Option ℕ → Option Asked
 demo_sized r None = None
-demo_sized r (Some n) = Some (commands.Demo (record { n = n; k = unwrap_or r.k 1; workers = unwrap_or r.workers 1 }))
+demo_sized r (Some n) = Some (ForDemo (record { n = n; k = unwrap_or r.k 1; workers = unwrap_or r.workers 1 }))
 
 -- a size and the depth and workers are `demo`
-abbrev pub demo_read : List (List ℕ) → Option ℕ → Option ℕ → Option ℕ → Waiting → Reading → Option Command
+abbrev pub demo_read : List (List ℕ) → Option ℕ → Option ℕ → Option ℕ → Waiting → Reading → Option Asked
 demo_read words (Some at) None None Nothing r = if has_check_options r then None else demo_sized r (size_of (word_at words at))
 demo_read words first second third waiting r = None
 
-abbrev pub demo_of : List (List ℕ) → Option Reading → Option Command
+abbrev pub demo_of : List (List ℕ) → Option Reading → Option Asked
 demo_of words None = None
 demo_of words (Some r) = demo_read words r.first r.second r.third r.waiting r
 
--- the command that the words are, or none where they aren't plain
-abbrev pub command_of : List (List ℕ) → Option Command
-command_of words =
+-- what the words past the command say
+abbrev pub reading_of : List (List ℕ) → Option Reading
+reading_of words = read_all (Some none_read) 2 (drop 2 words)
+
+-- what plain words ask for, or none where they aren't plain
+abbrev pub plain_command : List (List ℕ) → Option Asked
+plain_command words =
     if ltb (length words) 2 then None
-    else if bytes_eq (word_at words 1) (codes "check") then check_of (read_all (Some none_read) 2 (drop 2 words))
-    else if bytes_eq (word_at words 1) (codes "replay") then replay_of (read_all (Some none_read) 2 (drop 2 words))
-    else if bytes_eq (word_at words 1) (codes "verify") then verify_of (read_all (Some none_read) 2 (drop 2 words))
-    else if bytes_eq (word_at words 1) (codes "demo") then demo_of words (read_all (Some none_read) 2 (drop 2 words))
+    else if bytes_eq (word_at words 1) (codes "check") then check_of words (reading_of words)
+    else if bytes_eq (word_at words 1) (codes "replay") then replay_of words (reading_of words)
+    else if bytes_eq (word_at words 1) (codes "verify") then verify_of words (reading_of words)
+    else if bytes_eq (word_at words 1) (codes "demo") then demo_of words (reading_of words)
     else None
 
 -- each name has a place below this one
@@ -165,24 +174,3 @@ pub record AreWithin (n : ℕ) (r : Reading) : Type 0 where
   pub cert : IsBelow n r.cert
   pub k : IsUpTo 16 r.k
   pub workers : IsUpTo 64 r.workers
-
-pub record IsCheckOf (n : ℕ) (c : Check) : Type 0 where
-  pub left : c.left < n
-  pub right : c.right < n
-  pub trace : IsBelow n c.trace
-  pub cert : IsBelow n c.cert
-  pub some : 0 < c.k
-  pub few : c.k ≤ 16
-  pub workers : (0 < c.workers) × (c.workers ≤ 64)
-
-pub record IsDemoOf (d : Demo) : Type 0 where
-  pub size : d.n ≤ 100000
-  pub some : 0 < d.k
-  pub few : d.k ≤ 16
-  pub workers : (0 < d.workers) × (d.workers ≤ 64)
-
-abbrev pub AreWordsOf : ℕ → Command → Type 0
-AreWordsOf n (commands.Check c) = IsCheckOf n c
-AreWordsOf n (commands.Replay c) = (c.left < n) × (c.right < n) × (c.trace < n)
-AreWordsOf n (commands.Verify c) = (c.left < n) × (c.right < n) × (c.cert < n)
-AreWordsOf n (commands.Demo d) = IsDemoOf d

@@ -1,63 +1,10 @@
-// The words of a run: which command they are, with which files and options.
-ghost use Rattle.std.specs.Prelude.{◌≡◌, ◌≤◌, ◌<◌, ℕ, List, drop, length, IfSome, Some};
-ghost use Rattle.sec_cli.specs.Words.{is_name, leads_zero, texts, number_of, none_read, step, named, word_read, store_read, flag_read, read_all, check_of, replay_of, has_check_options, has_options, verify_of, size_of, demo_of, command_of, AreWithin, AreWordsOf, IsUpTo};
+// The reader of plain words, which takes no memory. While it reads, a name stands as its place among the words.
+ghost use Rattle.std.specs.Prelude.{◌≡◌, ◌≤◌, ◌<◌, ℕ, length, IfSome, option_map};
+ghost use Rattle.command_line.specs.Asked.{asked_of, IsWithin};
+ghost use Rattle.command_line.specs.Plain.{is_name, leads_zero, texts, number_of, named, step, word_read, store_read, flag_read, reading_of, check_of, replay_of, has_check_options, has_options, verify_of, size_of, demo_of, plain_command, word_at, AreWithin, IsBelow, IsUpTo};
 
+use crate::command::{Check, Command, Demo, Replay, Verify};
 use aiger_codec::read_number;
-
-/// The words of `check`. A name stands as its place among the words of the run.
-#[derive(Clone, Copy, Debug, PartialEq, Eq)]
-pub struct Check {
-    pub left: usize,
-    pub right: usize,
-    /// The depth of the induction.
-    pub k: u32,
-    /// How many workers are asked for.
-    pub workers: u32,
-    /// Whether the classes are printed.
-    pub classes: bool,
-    /// Whether the numbers of the journal's entries are printed.
-    pub stats: bool,
-    /// Where a trace is stored.
-    pub trace: Option<usize>,
-    /// Where a certificate is stored.
-    pub cert: Option<usize>,
-}
-
-/// The words of `replay`, likewise.
-#[derive(Clone, Copy, Debug, PartialEq, Eq)]
-pub struct Replay {
-    pub left: usize,
-    pub right: usize,
-    pub trace: usize,
-}
-
-/// The words of `verify`, likewise.
-#[derive(Clone, Copy, Debug, PartialEq, Eq)]
-pub struct Verify {
-    pub left: usize,
-    pub right: usize,
-    pub cert: usize,
-}
-
-/// The words of `demo`.
-#[derive(Clone, Copy, Debug, PartialEq, Eq)]
-pub struct Demo {
-    /// The size of the pair.
-    pub n: u32,
-    /// The depth of the induction.
-    pub k: u32,
-    /// How many workers are asked for.
-    pub workers: u32,
-}
-
-/// What the words of a run ask for.
-#[derive(Clone, Copy, Debug, PartialEq, Eq)]
-pub enum Command {
-    Check(Check),
-    Replay(Replay),
-    Verify(Verify),
-    Demo(Demo),
-}
 
 /// The option whose value comes next.
 #[derive(Clone, Copy, Debug, PartialEq, Eq)]
@@ -273,7 +220,7 @@ fn step(r: Reading, at: usize, word: &[u8]) -> Option<Reading>
 // What the words past the command say.
 fn read_all(words: &[String]) -> Option<Reading>
     requires { 2 ≤ length words.now }
-    ensures read { result ≡ read_all (Some none_read) 2 (drop 2 (texts words.now)) }
+    ensures read { result ≡ reading_of (texts words.now) }
     ensures within { IfSome result (AreWithin (length words.now)) }
 {
     let mut reading = Reading {
@@ -294,20 +241,32 @@ fn read_all(words: &[String]) -> Option<Reading>
     Some(reading)
 }
 
-fn check_of(r: Reading) -> Option<Command>
-    ensures command { result ≡ check_of (Some r) }
-    ensures within { (n : ℕ) → AreWithin n r → IfSome result (AreWordsOf n) }
+// The name at a place, where there is one.
+fn name_at<'w>(words: &'w [String], place: Option<usize>) -> Option<&'w str>
+    requires { IsBelow (length words.now) place }
+    ensures { option_map (λ n. n.now) result ≡ option_map (word_at (texts words.now)) place }
+{
+    match place {
+        Some(at) => Some(words[at].as_str()),
+        None => None,
+    }
+}
+
+fn check_of<'w>(words: &'w [String], r: Reading) -> Option<Command<'w>>
+    requires { AreWithin (length words.now) r }
+    ensures command { option_map asked_of result ≡ check_of (texts words.now) (Some r) }
+    ensures within { IfSome result (λ c. IsWithin (asked_of c)) }
 {
     match (r.first, r.second, r.third, r.waiting) {
         (Some(left), Some(right), None, Waiting::Nothing) => Some(Command::Check(Check {
-            left,
-            right,
+            left: words[left].as_str(),
+            right: words[right].as_str(),
             k: r.k.unwrap_or(1),
             workers: r.workers.unwrap_or(1),
             classes: r.classes,
             stats: r.stats,
-            trace: r.trace,
-            cert: r.cert,
+            trace: name_at(words, r.trace),
+            cert: name_at(words, r.cert),
         })),
         _ => None,
     }
@@ -327,32 +286,38 @@ fn has_options(r: Reading) -> bool
     r.k.is_some() || r.workers.is_some() || has_check_options(r)
 }
 
-fn replay_of(r: Reading) -> Option<Command>
-    ensures command { result ≡ replay_of (Some r) }
-    ensures within { (n : ℕ) → AreWithin n r → IfSome result (AreWordsOf n) }
+fn replay_of<'w>(words: &'w [String], r: Reading) -> Option<Command<'w>>
+    requires { AreWithin (length words.now) r }
+    ensures command { option_map asked_of result ≡ replay_of (texts words.now) (Some r) }
+    ensures within { IfSome result (λ c. IsWithin (asked_of c)) }
 {
     if has_options(r) {
         return None;
     }
     match (r.first, r.second, r.third, r.waiting) {
-        (Some(left), Some(right), Some(trace), Waiting::Nothing) => {
-            Some(Command::Replay(Replay { left, right, trace }))
-        }
+        (Some(left), Some(right), Some(trace), Waiting::Nothing) => Some(Command::Replay(Replay {
+            left: words[left].as_str(),
+            right: words[right].as_str(),
+            trace: words[trace].as_str(),
+        })),
         _ => None,
     }
 }
 
-fn verify_of(r: Reading) -> Option<Command>
-    ensures command { result ≡ verify_of (Some r) }
-    ensures within { (n : ℕ) → AreWithin n r → IfSome result (AreWordsOf n) }
+fn verify_of<'w>(words: &'w [String], r: Reading) -> Option<Command<'w>>
+    requires { AreWithin (length words.now) r }
+    ensures command { option_map asked_of result ≡ verify_of (texts words.now) (Some r) }
+    ensures within { IfSome result (λ c. IsWithin (asked_of c)) }
 {
     if has_options(r) {
         return None;
     }
     match (r.first, r.second, r.third, r.waiting) {
-        (Some(left), Some(right), Some(cert), Waiting::Nothing) => {
-            Some(Command::Verify(Verify { left, right, cert }))
-        }
+        (Some(left), Some(right), Some(cert), Waiting::Nothing) => Some(Command::Verify(Verify {
+            left: words[left].as_str(),
+            right: words[right].as_str(),
+            cert: words[cert].as_str(),
+        })),
         _ => None,
     }
 }
@@ -370,10 +335,10 @@ fn size_of(word: &[u8]) -> Option<u32>
 }
 
 // The words of `demo`, of which one is its size.
-fn demo_of(words: &[String], r: Reading) -> Option<Command>
+fn demo_of<'w>(words: &'w [String], r: Reading) -> Option<Command<'w>>
     requires { AreWithin (length words.now) r }
-    ensures command { result ≡ demo_of (texts words.now) (Some r) }
-    ensures within { IfSome result (AreWordsOf (length words.now)) }
+    ensures command { option_map asked_of result ≡ demo_of (texts words.now) (Some r) }
+    ensures within { IfSome result (λ c. IsWithin (asked_of c)) }
 {
     if has_check_options(r) {
         return None;
@@ -392,9 +357,9 @@ fn demo_of(words: &[String], r: Reading) -> Option<Command>
 }
 
 /// The command that plain words are, or none where they aren't plain.
-pub(crate) fn command_of(words: &[String]) -> Option<Command>
-    ensures command { result ≡ command_of (texts words.now) }
-    ensures within { IfSome result (AreWordsOf (length words.now)) }
+pub(crate) fn plain_command<'w>(words: &'w [String]) -> Option<Command<'w>>
+    ensures command { option_map asked_of result ≡ plain_command (texts words.now) }
+    ensures within { IfSome result (λ c. IsWithin (asked_of c)) }
 {
     if words.len() < 2 {
         return None;
@@ -402,11 +367,11 @@ pub(crate) fn command_of(words: &[String]) -> Option<Command>
     let reading = read_all(words)?;
     let name = words[1].as_bytes();
     if name == b"check".as_slice() {
-        check_of(reading)
+        check_of(words, reading)
     } else if name == b"replay".as_slice() {
-        replay_of(reading)
+        replay_of(words, reading)
     } else if name == b"verify".as_slice() {
-        verify_of(reading)
+        verify_of(words, reading)
     } else if name == b"demo".as_slice() {
         demo_of(words, reading)
     } else {

@@ -2,8 +2,8 @@
 use Rattle.std.proofs.Common.{◌≡◌, ◌∙◌, ◌+◌, ◌<◌, ◌≤◌, ℕ, List, [], ◌∷◌, Option, Some, String, length, drop, get_or, string_bytes, ap, sym, arith, add-one, drop-cons}
 use Rattle.std.proofs.lemmas.List.{length-map, get_or-map}
 use Rattle.std.proofs.Math.ListN.{drop_of_length-le}
-use Rattle.sec_cli.specs.declared.words.Reading.{Reading}
-use Rattle.sec_cli.specs.Words.{texts, word_at, step, read_all}
+use Rattle.command_line.specs.declared.plain.Reading.{Reading}
+use Rattle.command_line.specs.Plain.{texts, word_at, step, read_all}
 
 -- a word's text is the text at its place
 pub text_at : {Z : Type 0} (ws : List (String Z)) (i : ℕ) (w : String Z) → i < length ws → w ≡ get_or ws i w → string_bytes w ≡ word_at (texts ws) i

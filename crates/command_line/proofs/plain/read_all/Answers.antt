@@ -1,8 +1,8 @@
 use Rattle.std.proofs.Common.{◌∙◌, ◌+◌, Option, drop, sym, ap, arith}
-use Rattle.sec_cli.specs.declared.words.Reading.{Reading}
-use Rattle.sec_cli.specs.Words.{texts, read_all}
-use Rattle.sec_cli.proofs.Naming.{read_one}
-use Rattle.sec_cli.proofs.words.read_all.Goals as goal
+use Rattle.command_line.specs.declared.plain.Reading.{Reading}
+use Rattle.command_line.specs.Plain.{texts, read_all}
+use Rattle.command_line.proofs.Naming.{read_one}
+use Rattle.command_line.proofs.plain.read_all.Goals as goal
 
 pub returns-in_err-reading-clause-read : goal.returns-in_err-reading-clause-read
 returns-in_err-reading-clause-read c =

@@ -1,0 +1,5 @@
+pub mod Naming
+pub mod Building
+pub mod Numbers
+pub mod Taking
+pub mod Exact

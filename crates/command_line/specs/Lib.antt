@@ -1,0 +1,4 @@
+pub mod Asked
+pub mod Plain
+pub mod App
+pub mod Meant

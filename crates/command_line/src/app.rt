@@ -1,0 +1,120 @@
+// The command that is given to clap: a required subcommand for each line of the usage text. Its own help is clap's.
+ghost use Rattle.std.specs.Prelude.{◌≡◌, codes, false, IfOk};
+ghost use Rattle.clap.specs.Words.{rule_of};
+ghost use Rattle.command_line.specs.App.{name_rule, size_rule, number_rule, depth_rule, workers_rule, file_rule, flag_rule, check_app, replay_app, verify_app, demo_app, sec_app, IsCommand};
+
+use clap::builder::ValueParser;
+use clap::{Arg, ArgAction, Command};
+use std::alloc::{AllocError, Global};
+
+// A word that has to be there.
+fn name_arg<'a>(alloc: Global, id: &'a str) -> Arg<'a>
+    ensures rule { rule_of result ≡ name_rule id.entry.now }
+    ensures local { result.global ≡ false }
+{
+    Arg::new(alloc, id).required(true).action(ArgAction::Set)
+}
+
+// A number that has to be there.
+fn size_arg<'a>(alloc: Global, id: &'a str, most: u64) -> Arg<'a>
+    ensures rule { rule_of result ≡ size_rule id.entry.now most }
+    ensures local { result.global ≡ false }
+{
+    name_arg(alloc, id).value_parser(ValueParser::unsigned(0, most))
+}
+
+// An option with a number, which is 1 where the option is left out.
+fn number_arg<'a>(alloc: Global, id: &'a str, letter: char, most: u64) -> Arg<'a>
+    ensures rule { rule_of result ≡ number_rule id.entry.now letter most }
+    ensures local { result.global ≡ false }
+{
+    Arg::new(alloc, id)
+        .short(letter)
+        .action(ArgAction::Set)
+        .value_parser(ValueParser::unsigned(1, most))
+        .default_value("1")
+}
+
+// The depth of the induction.
+fn depth_arg<'a>(alloc: Global) -> Arg<'a>
+    ensures rule { rule_of result ≡ depth_rule }
+    ensures local { result.global ≡ false }
+{
+    number_arg(alloc, "k", 'k', 16)
+}
+
+// How many workers are asked for.
+fn workers_arg<'a>(alloc: Global) -> Arg<'a>
+    ensures rule { rule_of result ≡ workers_rule }
+    ensures local { result.global ≡ false }
+{
+    number_arg(alloc, "j", 'j', 64)
+}
+
+// An option with the name of a file.
+fn file_arg<'a>(alloc: Global, id: &'a str) -> Arg<'a>
+    ensures rule { rule_of result ≡ file_rule id.entry.now }
+    ensures local { result.global ≡ false }
+{
+    Arg::new(alloc, id).long(id).action(ArgAction::Set)
+}
+
+fn flag_arg<'a>(alloc: Global, id: &'a str) -> Arg<'a>
+    ensures rule { rule_of result ≡ flag_rule id.entry.now }
+    ensures local { result.global ≡ false }
+{
+    Arg::new(alloc, id).long(id).action(ArgAction::SetTrue)
+}
+
+fn check_command<'a>(alloc: Global) -> Result<Command<'a>, AllocError>
+    ensures { IfOk result (IsCommand check_app) }
+{
+    Command::new(alloc, "check")
+        .arg(name_arg(alloc, "LEFT"))?
+        .arg(name_arg(alloc, "RIGHT"))?
+        .arg(depth_arg(alloc))?
+        .arg(workers_arg(alloc))?
+        .arg(flag_arg(alloc, "classes"))?
+        .arg(flag_arg(alloc, "stats"))?
+        .arg(file_arg(alloc, "trace"))?
+        .arg(file_arg(alloc, "cert"))
+}
+
+fn replay_command<'a>(alloc: Global) -> Result<Command<'a>, AllocError>
+    ensures { IfOk result (IsCommand replay_app) }
+{
+    Command::new(alloc, "replay")
+        .arg(name_arg(alloc, "LEFT"))?
+        .arg(name_arg(alloc, "RIGHT"))?
+        .arg(name_arg(alloc, "TRACE"))
+}
+
+fn verify_command<'a>(alloc: Global) -> Result<Command<'a>, AllocError>
+    ensures { IfOk result (IsCommand verify_app) }
+{
+    Command::new(alloc, "verify")
+        .arg(name_arg(alloc, "LEFT"))?
+        .arg(name_arg(alloc, "RIGHT"))?
+        .arg(name_arg(alloc, "CERT"))
+}
+
+fn demo_command<'a>(alloc: Global) -> Result<Command<'a>, AllocError>
+    ensures { IfOk result (IsCommand demo_app) }
+{
+    Command::new(alloc, "demo")
+        .arg(size_arg(alloc, "N", 100000))?
+        .arg(depth_arg(alloc))?
+        .arg(workers_arg(alloc))
+}
+
+/// The whole command.
+pub(crate) fn sec_command<'a>(alloc: Global) -> Result<Command<'a>, AllocError>
+    ensures { IfOk result (IsCommand sec_app) }
+{
+    Command::new(alloc, "sec")
+        .subcommand_required(true)
+        .subcommand(check_command(alloc)?)?
+        .subcommand(replay_command(alloc)?)?
+        .subcommand(verify_command(alloc)?)?
+        .subcommand(demo_command(alloc)?)
+}

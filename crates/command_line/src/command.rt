@@ -1,0 +1,65 @@
+// What the words of a run ask for. In contracts a command is seen with its names as texts: `asked_of`.
+
+/// The words of `check`.
+#[derive(Clone, Copy, Debug, PartialEq, Eq)]
+pub struct Check<'w> {
+    pub left: &'w str,
+    pub right: &'w str,
+    /// The depth of the induction.
+    pub k: u32,
+    /// How many workers are asked for.
+    pub workers: u32,
+    /// Whether the classes are printed.
+    pub classes: bool,
+    /// Whether the numbers of the journal's entries are printed.
+    pub stats: bool,
+    /// Where a trace is stored.
+    pub trace: Option<&'w str>,
+    /// Where a certificate is stored.
+    pub cert: Option<&'w str>,
+}
+
+/// The words of `replay`.
+#[derive(Clone, Copy, Debug, PartialEq, Eq)]
+pub struct Replay<'w> {
+    pub left: &'w str,
+    pub right: &'w str,
+    pub trace: &'w str,
+}
+
+/// The words of `verify`.
+#[derive(Clone, Copy, Debug, PartialEq, Eq)]
+pub struct Verify<'w> {
+    pub left: &'w str,
+    pub right: &'w str,
+    pub cert: &'w str,
+}
+
+/// The words of `demo`.
+#[derive(Clone, Copy, Debug, PartialEq, Eq)]
+pub struct Demo {
+    /// The size of the pair.
+    pub n: u32,
+    /// The depth of the induction.
+    pub k: u32,
+    /// How many workers are asked for.
+    pub workers: u32,
+}
+
+/// What the words of a run ask for.
+#[derive(Clone, Copy, Debug, PartialEq, Eq)]
+pub enum Command<'w> {
+    Check(Check<'w>),
+    Replay(Replay<'w>),
+    Verify(Verify<'w>),
+    Demo(Demo),
+}
+
+/// Why no command was read.
+#[derive(Clone, Copy, Debug, PartialEq, Eq)]
+pub enum Unread {
+    /// The words are no command.
+    NotACommand,
+    /// There was no memory.
+    Memory,
+}

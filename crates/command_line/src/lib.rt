@@ -1,0 +1,14 @@
+//! The words of a run: which command they are, with which files and options.
+#![tactic(auto)]
+
+mod app;
+mod command;
+mod plain;
+mod read;
+mod taken;
+
+pub use command::{Check, Command, Demo, Replay, Unread, Verify};
+pub use read::read_words;
+
+#[cfg(test)]
+mod tests;
