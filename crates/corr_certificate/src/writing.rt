@@ -20,7 +20,7 @@ use crate::trimming::trimmed;
 use circ_model::{Lit, Signal};
 use class_partition::Classes;
 use class_text::{push_class_lines, push_name};
-use frame_unroll::{Found, Prepared, Unrolled};
+use frame_unroll::{Found, Prepared, Unrolled, Workspace};
 use itoa::Buffer;
 use product_machine::Product;
 use sat_log::{Log, write_log};
@@ -72,6 +72,13 @@ struct Frames<'p> {
     step_clauses: u64,
 }
 
+// The memory in which their questions are asked.
+#[derive(Drop)]
+struct Workspaces {
+    base: Workspace,
+    step: Workspace,
+}
+
 // How many clauses frames have with a question over some of them, whichever its literals are.
 fn clauses_asked(
     alloc: Global,
@@ -119,6 +126,7 @@ fn frames_of<'p>(
 // The log, trimmed, that no run has a place and its class's least place apart in its first k frames.
 fn base_log(
     alloc: Global,
+    work: &mut Workspace,
     product: &Product,
     k: u32,
     classes: &Classes,
@@ -133,7 +141,7 @@ fn base_log(
 {
     let _places = product.len();
     let (a, b) = literals_of(classes, place);
-    match frames.base.find(alloc, a, b, 0, k - 1)? {
+    match frames.base.find_in(alloc, work, a, b, 0, k - 1)? {
         Found::None(log) => trimmed(alloc, frames.base_clauses, &log),
         Found::Path(_seen) => unreachable!(),
     }
@@ -142,6 +150,7 @@ fn base_log(
 // The log, trimmed, that no path has them apart after k frames in which the classes hold.
 fn step_log(
     alloc: Global,
+    work: &mut Workspace,
     product: &Product,
     k: u32,
     classes: &Classes,
@@ -156,7 +165,7 @@ fn step_log(
 {
     let _places = product.len();
     let (a, b) = literals_of(classes, place);
-    match frames.step.find(alloc, a, b, k, k)? {
+    match frames.step.find_in(alloc, work, a, b, k, k)? {
         Found::None(log) => trimmed(alloc, frames.step_clauses, &log),
         Found::Path(_seen) => unreachable!(),
     }
@@ -183,6 +192,7 @@ fn push_part(
 // Adds the two parts of a place.
 fn push_member(
     alloc: Global,
+    work: &mut Workspaces,
     product: &Product,
     k: u32,
     classes: &Classes,
@@ -196,9 +206,9 @@ fn push_member(
     ensures { OnOk result (AddsMember product.now k classes.now place text.old.items text.new.items) }
 {
     let signal = product.signal(place);
-    let base = base_log(alloc, product, k, classes, frames, place)?;
+    let base = base_log(alloc, &mut work.base, product, k, classes, frames, place)?;
     push_part(b"base ", signal, &base, text)?;
-    let step = step_log(alloc, product, k, classes, frames, place)?;
+    let step = step_log(alloc, &mut work.step, product, k, classes, frames, place)?;
     push_part(b"step ", signal, &step, text)?;
     Ok(())
 }
@@ -206,6 +216,7 @@ fn push_member(
 // Adds the parts of all places that aren't the least of their class, and the end.
 fn push_members(
     alloc: Global,
+    work: &mut Workspaces,
     product: &Product,
     k: u32,
     classes: &Classes,
@@ -218,7 +229,7 @@ fn push_members(
 {
     for place in 0..product.len() {
         if classes.rep(place) != place {
-            push_member(alloc, product, k, classes, frames, place, text)?;
+            push_member(alloc, work, product, k, classes, frames, place, text)?;
         }
     }
     text.extend_from_slice(b"end\n")?;
@@ -239,7 +250,11 @@ fn text_of(
     push_head(product, k, &mut text)?;
     push_class_lines(alloc, product, classes, &mut text)?;
     let frames = frames_of(alloc, product, k, classes)?;
-    push_members(alloc, product, k, classes, &frames, &mut text)?;
+    let mut work = Workspaces {
+        base: Workspace::new(),
+        step: Workspace::new(),
+    };
+    push_members(alloc, &mut work, product, k, classes, &frames, &mut text)?;
     Ok(text)
 }
 
