@@ -1,5 +1,9 @@
 pub mod Naming
 pub mod Building
+pub mod Ends
+pub mod Leaves
 pub mod Numbers
+pub mod Rows
+pub mod Spelling
 pub mod Taking
-pub mod Exact
+pub mod Walking

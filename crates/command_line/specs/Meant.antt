@@ -1,5 +1,5 @@
 -- What words mean: plain words what they say, and other words what clap's matches say, where clap takes them.
-use Rattle.std.specs.Prelude.{ℕ, Bool, true, false, if◌then◌else◌, List, [], ◌∷◌, codes, bytes_eq, Option, None, Some, unwrap_or}
+use Rattle.std.specs.Prelude.{◌≡◌, ℕ, Bool, true, false, if◌then◌else◌, List, [], ◌∷◌, codes, bytes_eq, Option, None, Some}
 use Rattle.std.specs.Str.Parse.{digits_value, without_leading_plus}
 use Rattle.clap.specs.Words.{Kinds, Row, fault_of, first_of, one_of, subcommand_of}
 use Rattle.clap.specs.ValueTests.{is_unsigned_in}
@@ -12,12 +12,8 @@ abbrev pub number_in : ℕ → ℕ → Option (List ℕ) → Option ℕ
 number_in least most None = None
 number_in least most (Some text) = if is_unsigned_in least most text then Some (digits_value 10 (without_leading_plus text)) else None
 
--- the number of an argument, if it has one within the limits
-abbrev pub number_within : List ℕ → ℕ → ℕ → List Row → Option ℕ
-number_within id least most rows = number_in least most (one_of id rows)
-
-abbrev pub name_of : List ℕ → List Row → List ℕ
-name_of id rows = unwrap_or (first_of id rows) []
+abbrev pub number_of : List ℕ → ℕ → ℕ → List Row → Option ℕ
+number_of id least most rows = number_in least most (one_of id rows)
 
 abbrev pub is_true : Option (List ℕ) → Bool
 is_true None = false
@@ -26,43 +22,53 @@ is_true (Some text) = bytes_eq text (codes "true")
 abbrev pub has_flag : List ℕ → List Row → Bool
 has_flag id rows = is_true (first_of id rows)
 
--- what clap's matches of `check` say
-abbrev pub check_matched : List Row → Asked
-check_matched rows = ForCheck (record {
-  left = name_of (codes "LEFT") rows;
-  right = name_of (codes "RIGHT") rows;
-  k = unwrap_or (number_within (codes "k") 1 16 rows) 1;
-  workers = unwrap_or (number_within (codes "j") 1 64 rows) 1;
+abbrev pub check_from : Option (List ℕ) → Option (List ℕ) → Option ℕ → Option ℕ → List Row → Option Asked
+check_from (Some left) (Some right) (Some k) (Some workers) rows = Some (ForCheck (record {
+  left = left;
+  right = right;
+  k = k;
+  workers = workers;
   classes = has_flag (codes "classes") rows;
   stats = has_flag (codes "stats") rows;
   trace = first_of (codes "trace") rows;
   cert = first_of (codes "cert") rows;
-})
+}))
+check_from left right k workers rows = None
 
-abbrev pub replay_matched : List Row → Asked
-replay_matched rows = ForReplay (record { left = name_of (codes "LEFT") rows; right = name_of (codes "RIGHT") rows; trace = name_of (codes "TRACE") rows })
+-- what clap's matches of `check` say
+abbrev pub check_matched : List Row → Option Asked
+check_matched rows = check_from (first_of (codes "LEFT") rows) (first_of (codes "RIGHT") rows) (number_of (codes "k") 1 16 rows) (number_of (codes "j") 1 64 rows) rows
 
-abbrev pub verify_matched : List Row → Asked
-verify_matched rows = ForVerify (record { left = name_of (codes "LEFT") rows; right = name_of (codes "RIGHT") rows; cert = name_of (codes "CERT") rows })
+abbrev pub replay_from : Option (List ℕ) → Option (List ℕ) → Option (List ℕ) → Option Asked
+replay_from (Some left) (Some right) (Some trace) = Some (ForReplay (record { left = left; right = right; trace = trace }))
+replay_from left right trace = None
 
-abbrev pub demo_matched : List Row → Asked
-demo_matched rows = ForDemo (record {
-  n = unwrap_or (number_within (codes "N") 0 100000 rows) 0;
-  k = unwrap_or (number_within (codes "k") 1 16 rows) 1;
-  workers = unwrap_or (number_within (codes "j") 1 64 rows) 1;
-})
+abbrev pub replay_matched : List Row → Option Asked
+replay_matched rows = replay_from (first_of (codes "LEFT") rows) (first_of (codes "RIGHT") rows) (first_of (codes "TRACE") rows)
 
--- what clap's matches say, by the name of the subcommand, of which there are four
-abbrev pub matched_as : List ℕ → List Row → Asked
-matched_as name rows =
-    if bytes_eq name (codes "check") then check_matched rows
-    else if bytes_eq name (codes "replay") then replay_matched rows
-    else if bytes_eq name (codes "verify") then verify_matched rows
-    else demo_matched rows
+abbrev pub verify_from : Option (List ℕ) → Option (List ℕ) → Option (List ℕ) → Option Asked
+verify_from (Some left) (Some right) (Some cert) = Some (ForVerify (record { left = left; right = right; cert = cert }))
+verify_from left right cert = None
 
+abbrev pub verify_matched : List Row → Option Asked
+verify_matched rows = verify_from (first_of (codes "LEFT") rows) (first_of (codes "RIGHT") rows) (first_of (codes "CERT") rows)
+
+abbrev pub demo_from : Option ℕ → Option ℕ → Option ℕ → Option Asked
+demo_from (Some n) (Some k) (Some workers) = Some (ForDemo (record { n = n; k = k; workers = workers }))
+demo_from n k workers = None
+
+abbrev pub demo_matched : List Row → Option Asked
+demo_matched rows = demo_from (number_of (codes "N") 0 100000 rows) (number_of (codes "k") 1 16 rows) (number_of (codes "j") 1 64 rows)
+
+-- what clap's matches say, by the name of the subcommand
 abbrev pub matched : Option (List ℕ × List Row) → Option Asked
 matched None = None
-matched (Some m) = Some (matched_as m.0 m.1)
+matched (Some m) =
+    if bytes_eq m.0 (codes "check") then check_matched m.1
+    else if bytes_eq m.0 (codes "replay") then replay_matched m.1
+    else if bytes_eq m.0 (codes "verify") then verify_matched m.1
+    else if bytes_eq m.0 (codes "demo") then demo_matched m.1
+    else None
 
 abbrev pub are_none : Kinds → Bool
 are_none [] = true
@@ -83,3 +89,8 @@ or_else (Some asked) other = Some asked
 -- what words ask for, if anything
 unfoldable pub meant : List (List ℕ) → Option Asked
 meant words = or_else (plain_command words) (taken_command words)
+
+-- words that ask for nothing: they aren't plain, and clap doesn't take them
+pub record AreNoCommand (words : List (List ℕ)) : Type 0 where
+  pub plain : plain_command words ≡ None
+  pub taken : is_taken words ≡ false

@@ -16,7 +16,7 @@ use sec_base::Gate;
 use std::alloc::Global;
 use std::sync::ledger::Ledger;
 use std::sync::{Condvar, Mutex, Wait};
-use verdict_stamp::{Proof, Stamp, Verdict, Version, Versions};
+use verdict_stamp::{Proof, Stamp, Verdict, Version, Versions, Workspaces};
 
 /// What the workers share: the locked desk, the bell that wakes those who wait for work, and the published versions, which
 /// are read without the lock.
@@ -173,6 +173,7 @@ impl<'v, 'p, L: Run, E: Ledger, O: Ledger> Room<'v, 'p, L, E, O> {
         party: u32,
         call: &mut u64,
         bench: &Bench<'v, 'p>,
+        memory: &mut Workspaces,
         seat: &mut Seat<E, O>,
         pocket: &mut Vec<Found<'p, L>>,
         offer: Offer<'p, L>,
@@ -192,7 +193,7 @@ impl<'v, 'p, L: Run, E: Ledger, O: Ledger> Room<'v, 'p, L, E, O> {
             self.give_back(rt, seat, offer);
             return Turn::Stopped;
         }
-        match bench.prover().prove(alloc, offer.pair()) {
+        match bench.prover().prove_in(alloc, memory, offer.pair()) {
             Ok(Proof::Holds(verdict)) => self.keep(
                 rt,
                 gate,
@@ -220,6 +221,7 @@ impl<'v, 'p, L: Run, E: Ledger, O: Ledger> Room<'v, 'p, L, E, O> {
         party: u32,
         call: &mut u64,
         bench: &mut Option<Bench<'v, 'p>>,
+        memory: &mut Workspaces,
         seat: &mut Seat<E, O>,
         pocket: &mut Vec<Found<'p, L>>,
         offer: Offer<'p, L>,
@@ -236,7 +238,9 @@ impl<'v, 'p, L: Run, E: Ledger, O: Ledger> Room<'v, 'p, L, E, O> {
         gate.works(party, last_call(*call));
         match bench_of(alloc, self.versions, bench.take(), offer.stamp()) {
             Ok(at) => {
-                let turn = self.prove_at(rt, alloc, gate, party, call, &at, seat, pocket, offer);
+                let turn = self.prove_at(
+                    rt, alloc, gate, party, call, &at, memory, seat, pocket, offer,
+                );
                 *bench = Some(at);
                 turn
             }
@@ -257,6 +261,7 @@ impl<'v, 'p, L: Run, E: Ledger, O: Ledger> Room<'v, 'p, L, E, O> {
         party: u32,
         call: &mut u64,
         bench: &mut Option<Bench<'v, 'p>>,
+        memory: &mut Workspaces,
         seat: &mut Seat<E, O>,
         pocket: &mut Vec<Found<'p, L>>,
     ) -> Turn
@@ -273,7 +278,9 @@ impl<'v, 'p, L: Run, E: Ledger, O: Ledger> Room<'v, 'p, L, E, O> {
         let holding = pocket.len() > 0;
         match self.ask(rt, gate, number, seat, bench, holding) {
             Asked::Work(offer) => {
-                self.prove(rt, alloc, gate, party, call, bench, seat, pocket, offer)
+                self.prove(
+                    rt, alloc, gate, party, call, bench, memory, seat, pocket, offer,
+                )
             }
             Asked::Idle | Asked::Moved => {
                 self.hand_in(rt, gate, party, call, seat, pocket);
@@ -333,6 +340,7 @@ pub(crate) fn work<'v, 'p, L: Run, E: Ledger, O: Ledger, G: Gate>(
     let party = seat.party();
     let mut seat = seat;
     let mut bench = None;
+    let mut memory = Workspaces::new();
     let mut pocket = Vec::new(alloc);
     let mut call: u64 = 0;
     for _turn in rt.forever() {
@@ -343,6 +351,7 @@ pub(crate) fn work<'v, 'p, L: Run, E: Ledger, O: Ledger, G: Gate>(
             party,
             &mut call,
             &mut bench,
+            &mut memory,
             &mut seat,
             &mut pocket,
         ) {

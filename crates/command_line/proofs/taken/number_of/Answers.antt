@@ -4,8 +4,8 @@ use Rattle.clap.specs.Words.{found_of, one_text}
 use Rattle.clap.proofs.WalkLemmas.{one_text-rows}
 use Rattle.command_line.specs.Meant.{number_in}
 use Rattle.command_line.proofs.Numbers.{read_inside, read_outside, read_missing}
-use Rattle.command_line.proofs.taken.number_within.Goals.{else-least-number-via-then-least-number+else-number-most, else-least-number-via-else-least-number}
-use Rattle.command_line.proofs.taken.number_within.Goals as goal
+use Rattle.command_line.proofs.taken.number_of.Goals.{else-least-number-via-then-least-number+else-number-most, else-least-number-via-else-least-number}
+use Rattle.command_line.proofs.taken.number_of.Goals as goal
 
 pub returns-in_err-number-clause-number : goal.returns-in_err-number-clause-number
 returns-in_err-number-clause-number c =
