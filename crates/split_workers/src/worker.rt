@@ -2,21 +2,21 @@
 //! Pairs that it finds apart it answers together, since each split opens all pairs again.
 ghost use Rattle.std.specs.Prelude.{◌≡◌, ◌≢◌, ◌<◌, ◌+◌, [], IfOk, IfSome, length};
 ghost use Rattle.boxcar.specs.Table.{Shows};
-ghost use Rattle.refine_board.specs.Running.{IsAbout, IsAsked};
+ghost use Rattle.refine_board.specs.Running.{IsAbout, IsAsked, IsOf};
 ghost use Rattle.verdict_stamp.specs.Published.{IsStampOf};
 ghost use Rattle.split_workers.specs.Seats.{HasEnded, HaveEnded, OwesLess, AreHeld};
 ghost use Rattle.split_workers.specs.Desks.{IsAskedOf, IsOutcome};
 
 use crate::bench::{Bench, bench_of};
 use crate::desk::{Asked, Desk};
-use crate::found::Found;
+use crate::found::{Found, held_apart};
 use crate::seat::Seat;
 use refine_board::{Journal, Offer, Run};
 use sec_base::Gate;
 use std::alloc::Global;
 use std::sync::ledger::Ledger;
 use std::sync::{Condvar, Mutex, Wait};
-use verdict_stamp::{Proof, Stamp, Verdict, Version, Versions, Workspaces};
+use verdict_stamp::{Proof, Stamp, Vector, Verdict, Version, Versions, Workspaces};
 
 /// What the workers share: the locked desk, the bell that wakes those who wait for work, and the published versions, which
 /// are read without the lock.
@@ -212,7 +212,71 @@ impl<'v, 'p, L: Run, E: Ledger, O: Ledger> Room<'v, 'p, L, E, O> {
         Turn::On
     }
 
-    // Proves an offered pair, under the offer's version.
+    // Puts an offer into the pocket with a vector.
+    fn hold(
+        &self,
+        rt: &impl Wait,
+        party: u32,
+        seat: &mut Seat<E, O>,
+        pocket: &mut Vec<Found<'p, L>>,
+        offer: Offer<'p, L>,
+        vector: Vector<'p>,
+    ) -> Turn
+        requires party { (offer.party ≡ party) × (party < L.workers) }
+        requires seat { (seat.old.party ≡ party) × (seat.old.ended ≡ 0) × (seat.old.owed ≡ length pocket.old.items + 1) }
+        requires held { AreHeld party pocket.old.items }
+        requires own { IsOf L.pair L.k vector }
+        ensures going { result ≢ Turn.Ended }
+        ensures seat { result ≡ Turn.On → (seat.new.party ≡ party) × (seat.new.ended ≡ 0) × (seat.new.owed ≡ length pocket.new.items) }
+        ensures held { result ≡ Turn.On → AreHeld party pocket.new.items }
+    {
+        if pocket.reserve(1).is_err() {
+            self.give_back(rt, seat, offer);
+            return Turn::Stopped;
+        }
+        pocket.push_reserved(Found { offer, vector });
+        Turn::On
+    }
+
+    // Answers an offered pair: by a vector that is held already, where one separates it, and else by a proof.
+    fn answer<G: Gate>(
+        &self,
+        rt: &impl Wait,
+        alloc: Global,
+        gate: &G,
+        party: u32,
+        call: &mut u64,
+        bench: &Bench<'v, 'p>,
+        memory: &mut Workspaces,
+        seat: &mut Seat<E, O>,
+        pocket: &mut Vec<Found<'p, L>>,
+        offer: Offer<'p, L>,
+    ) -> Turn
+        requires party { (offer.party ≡ party) × (party < L.workers) }
+        requires seat { (seat.old.party ≡ party) × (seat.old.ended ≡ 0) × (seat.old.owed ≡ length pocket.old.items + 1) }
+        requires held { AreHeld party pocket.old.items }
+        requires listed { Shows L.list bench.now }
+        requires asked { IsAsked bench.now.value offer.pair }
+        requires product { bench.now.value.pair ≡ L.pair }
+        requires k { bench.now.value.k ≡ L.k }
+        ensures going { result ≢ Turn.Ended }
+        ensures seat { result ≡ Turn.On → (seat.new.party ≡ party) × (seat.new.ended ≡ 0) × (seat.new.owed ≡ length pocket.new.items) }
+        ensures held { result ≡ Turn.On → AreHeld party pocket.new.items }
+    {
+        let classes = bench.prover().version().classes();
+        match held_apart(alloc, pocket.as_slice(), classes, offer.pair()) {
+            Ok(Some(vector)) => self.hold(rt, party, seat, pocket, offer, vector),
+            Ok(None) => self.prove_at(
+                rt, alloc, gate, party, call, bench, memory, seat, pocket, offer,
+            ),
+            Err(_) => {
+                self.give_back(rt, seat, offer);
+                Turn::Stopped
+            }
+        }
+    }
+
+    // Answers an offered pair, under the offer's version.
     fn prove<G: Gate>(
         &self,
         rt: &impl Wait,
@@ -238,7 +302,7 @@ impl<'v, 'p, L: Run, E: Ledger, O: Ledger> Room<'v, 'p, L, E, O> {
         gate.works(party, last_call(*call));
         match bench_of(alloc, self.versions, bench.take(), offer.stamp()) {
             Ok(at) => {
-                let turn = self.prove_at(
+                let turn = self.answer(
                     rt, alloc, gate, party, call, &at, memory, seat, pocket, offer,
                 );
                 *bench = Some(at);

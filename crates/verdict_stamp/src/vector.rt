@@ -82,6 +82,16 @@ impl<'p> Vector<'p> {
         Ok(Vector::of(product, k, row))
     }
 
+    /// An equal vector.
+    pub fn copy(&self, alloc: Global) -> Result<Vector<'p>, AllocError>
+        ensures { IfOk result (λ v. v ≡ self.now) }
+    {
+        let bits = self.bits();
+        let mut row = BitRow::with_len(alloc, bits.len())?;
+        row.copy_from(bits);
+        Ok(Vector::of(self.product, self.depth, row))
+    }
+
     /// The values, which may split the classes of any version of the same product and k.
     pub fn bits(&self) -> &BitRow
         ensures bits { result.now ≡ self.entry.now.bits }
