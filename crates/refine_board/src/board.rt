@@ -163,6 +163,17 @@ impl<'v, 'p, L: Run> Board<'v, 'p, L> {
         Cut::Foreign
     }
 
+    /// The same for a vector that is known to be of the run's netlists and k: they aren't compared.
+    pub fn split_own(&mut self, offer: Offer<'p, L>, vector: Vector<'_>) -> Cut
+        requires own { IsOf L.pair L.k vector }
+        ensures step { Appends (places_of L.pair) self.old self.new offer.entry.party (cut_step result vector.entry.bits) }
+        ensures own { result ≢ Cut.Foreign }
+        ensures stays { AreOfGreatest L.pair L.k self.old.state.classes → self.new.state.classes ≡ self.old.state.classes }
+    {
+        let (party, _) = self.settle(offer.into_debt());
+        self.cut(party, vector)
+    }
+
     /// Gives the work back.
     pub fn back(&mut self, offer: Offer<'p, L>)
         ensures { Appends (places_of L.pair) self.old self.new offer.entry.party (Step.Back offer.entry.pair) }

@@ -161,7 +161,7 @@ impl<'v, 'p, L: Run, E: Ledger, O: Ledger> Desk<'v, 'p, L, E, O> {
         requires own { IsOf L.pair L.k vector }
         ensures { OwesLess seat.old seat.new }
     {
-        self.board.split(offer, vector);
+        self.board.split_own(offer, vector);
         self.ledgers.pay(seat);
     }
 
