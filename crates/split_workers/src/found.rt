@@ -26,8 +26,12 @@ impl<'p, L: Run> Model for Found<'p, L> {
     ghost invariant = { λ f. IsOf L.pair L.k f.vector };
 }
 
-/// A copy of a vector that is held and seems to separate a pair of these classes: what was found for one pair often serves
-/// others, which then need no proof.
+// So many vectors are found, each by a proof of its own, before one of them serves for another pair: they tell the places of
+// a class apart from one another too, and not from its least place alone.
+const ENOUGH: usize = 64;
+
+/// A copy of a vector that is held and seems to separate a pair of these classes: where there are enough of them, what was
+/// found for one pair often serves others, which then need no proof.
 pub(crate) fn held_apart<'p, L: Run>(
     alloc: Global,
     pocket: &[Found<'p, L>],
@@ -36,6 +40,9 @@ pub(crate) fn held_apart<'p, L: Run>(
 ) -> Result<Option<Vector<'p>>, AllocError>
     ensures { IfOk result (λ v. IfSome v (IsOf L.pair L.k)) }
 {
+    if pocket.len() < ENOUGH {
+        return Ok(None);
+    }
     for found in pocket {
         if separates(found.vector.bits(), classes, pair) {
             let vector = found.vector.copy(alloc)?;
