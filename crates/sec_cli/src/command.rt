@@ -2,7 +2,7 @@
 ghost use Rattle.std.specs.Prelude.{◌≡◌, ◌≢◌, ◌≤◌, ◌<◌, ◌⊎◌, ℕ, List, [], ◌∷◌, IsTrue, IsSomeAnd, MatchBool, None, is_some, IfOk};
 ghost use Rattle.sec_base.specs.Faults.{Rose, appended};
 ghost use Rattle.command_line.specs.Asked.{asked_of, check_asked, IsDemoWithin, IsWithin};
-ghost use Rattle.command_line.specs.Meant.{meant};
+ghost use Rattle.command_line.specs.Meant.{meant, AreNoCommand};
 ghost use Rattle.command_line.specs.Plain.{texts};
 ghost use Rattle.sec_cli.specs.Answers.{is_refined};
 ghost use Rattle.sec_cli.specs.Texts.{usage_text, memory_text};
@@ -246,6 +246,7 @@ pub fn run<R: Threads + Wait + Sync, S: Shelf, O: Sink, E: Sink, G: Gate>(
 ) -> Report
     // Words that mean no command answer 3, but for want of memory, and no other words do.
     ensures usage { MatchBool (is_some (meant (texts words.now))) (result.status ≢ 3) ((result.status ≡ 3) ⊎ (result.status ≡ 7)) }
+    ensures no_command { result.status ≡ 3 → AreNoCommand (texts words.now) }
     ensures told_usage { result.status ≡ 3 → IsTold (E.taken err.old) (E.faults err.old) usage_text (E.taken err.new) (E.faults err.new) }
     ensures status { result.status ≤ 7 }
 

@@ -18,6 +18,7 @@ returns-in-Ok g c =
     let bounds = within tells command e _ _ p.result.status low report in
     record {
       usage = subst (λ (o : Option Asked). MatchBool (is_some o) (p.result.status ≢ 3) ((p.result.status ≡ 3) ⊎ (p.result.status ≡ 7))) (sym is) bounds.1;
+      no_command = λ three. absurd (bounds.1 three);
       told_usage = λ three. absurd (bounds.1 three);
       status = bounds.0;
       answered = λ le. some_and (meant words) command _ is (answered tells command e p.result.journal _ _ p.result.status low has from ended report le);
