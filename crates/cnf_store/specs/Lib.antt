@@ -1,3 +1,5 @@
 pub mod Arena
 pub mod Clauses
+pub mod Codes
+pub mod Joined
 pub mod Laws
