@@ -5,7 +5,7 @@ ghost use Rattle.std.specs.List.{All, Any, Contains};
 ghost use Rattle.sat_core.specs.Derivations.{neg, clause_at, Refutes};
 ghost use Rattle.sat_core.specs.Trail.{StandsBelow, IsPlaced, AreReasoned, Reasoned, IsMarked, Ready, open_below, Marks, State, IsLearned, StandsFrom, AreKnown};
 
-use crate::clauses::Clauses;
+use cnf_store::Clauses;
 use std::alloc::AllocError;
 
 /// The complement.

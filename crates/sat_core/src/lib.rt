@@ -8,20 +8,12 @@
 
 mod analysis;
 mod answer;
-mod chains;
-mod clauses;
-mod cone;
 mod edge;
-mod guide;
-mod hints;
 mod logs;
 mod looking;
-mod ordering;
-mod pace;
 mod ready;
 mod solving;
 mod trail;
-mod uses;
 mod watching;
 mod workspace;
 

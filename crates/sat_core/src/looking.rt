@@ -6,7 +6,7 @@ ghost use Rattle.sat_core.specs.Derivations.{neg, clause_at, AreWithin};
 ghost use Rattle.sat_core.specs.Trail.{IsPlaced, StandsBelow, IsWrong, IsUnit};
 ghost use Rattle.sat_core.specs.Looking.{IsWorth, IsFound, IsLook, SoFar, IsTrueIn, IsOpenIn};
 
-use crate::clauses::Clauses;
+use cnf_store::Clauses;
 
 /// A literal's value.
 #[derive(Drop)]

@@ -7,10 +7,10 @@ ghost use Rattle.sat_core.specs.Signed.{signed_clauses};
 
 use crate::answer::Answer;
 use crate::edge::{add_codes, bits_of, log_of};
-use crate::hints::Hints;
 use crate::solving::{Decided, Outcome, decide};
 use crate::workspace::{Kept, Workspace};
 use cnf_store::{Arena, Cnf};
+use sat_guide::Hints;
 use std::alloc::{AllocError, Global};
 use std::marker::Model;
 
@@ -55,7 +55,8 @@ impl Ready {
                 return Ok(old);
             }
         }
-        Kept::new(alloc, vars, &self.hints)
+        let codes = &self.codes;
+        Kept::new(alloc, vars, codes, &self.hints)
     }
 
     // Decides over codes, in the memory of earlier questions.
@@ -78,7 +79,7 @@ impl Ready {
             mut guide,
         } = kept.emptied(alloc, vars as usize)?;
         add_codes(own, vars, &mut clause, &mut codes)?;
-        guide.begin(vars as usize, &self.hints, &codes, self.codes.len())?;
+        guide.begin(alloc, vars as usize, &self.hints, &codes, self.codes.len())?;
         let Decided {
             outcome,
             learned,

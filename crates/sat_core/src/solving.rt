@@ -9,16 +9,12 @@ ghost use Rattle.sat_core.specs.declared.solving.Outcome.TheVariants.{Unsat};
 ghost use Rattle.sat_core.specs.Rank.{rank};
 
 use crate::analysis::{complement, learn, learn_nothing};
-use crate::clauses::{Clauses, Formula};
-use crate::guide::Guide;
 use crate::logs::Line;
-use crate::looking::{Look, look_through};
-use crate::ordering::Order;
-use crate::pace::Pace;
+use crate::looking::{Look, free, look_through};
 use crate::trail::Trail;
-use crate::uses::Uses;
 use crate::watching::{propagate, read_units};
-use cnf_store::Arena;
+use cnf_store::{Arena, Clauses, Joined};
+use sat_guide::{Guide, Order, Pace, Uses};
 use std::alloc::{AllocError, Global};
 
 /// What a solver has at hand.
@@ -88,7 +84,7 @@ pub fn level_below(starts: &[usize], place: usize) -> usize
 // Adds what a clause implies.
 pub fn add_implied(
     vars: usize,
-    formula: &Formula,
+    formula: &Joined,
     s: &mut Solver,
     lit: u32,
     clause: u64,
@@ -105,7 +101,7 @@ pub fn add_implied(
 // The same as a step.
 fn go_on(
     vars: usize,
-    formula: &Formula,
+    formula: &Joined,
     s: &mut Solver,
     lit: u32,
     clause: u64,
@@ -122,7 +118,7 @@ fn go_on(
 // Decides a variable.
 pub fn guess(
     vars: usize,
-    formula: &Formula,
+    formula: &Joined,
     s: &mut Solver,
     var: usize,
     phase: bool,
@@ -159,7 +155,7 @@ fn release_from(order: &mut Order, trail: &Trail, level: usize) -> Result<(), Al
 // Adds a learned clause, goes back as far as it allows and adds what it implies there.
 fn conclude(
     vars: usize,
-    formula: &Formula,
+    formula: &Joined,
     s: &mut Solver,
     order: &mut Order,
     level: usize,
@@ -194,7 +190,7 @@ fn conclude(
 fn refute(
     alloc: Global,
     vars: usize,
-    formula: &Formula,
+    formula: &Joined,
     s: &mut Solver,
     from: usize,
     conflict: u64,
@@ -232,7 +228,7 @@ fn refute(
 pub fn meet(
     alloc: Global,
     vars: usize,
-    formula: &Formula,
+    formula: &Joined,
     s: &mut Solver,
     order: &mut Order,
     conflict: u64,
@@ -270,7 +266,7 @@ pub fn meet(
 fn meet_at(
     alloc: Global,
     vars: usize,
-    formula: &Formula,
+    formula: &Joined,
     s: &mut Solver,
     order: &mut Order,
     number: usize,
@@ -289,7 +285,7 @@ fn meet_at(
 pub fn check_all(
     alloc: Global,
     vars: usize,
-    formula: &Formula,
+    formula: &Joined,
     s: &mut Solver,
     order: &mut Order,
 ) -> Result<Gone, AllocError>
@@ -305,11 +301,31 @@ pub fn check_all(
     }
 }
 
+// A variable without a value: what the order has, or any.
+fn pick(order: &mut Order, trail: &Trail) -> Option<usize>
+    ensures some { IfSome result (λ v. (v < length trail.now.at.items) × (slice_index trail.now.at.items v ≡ 0)) }
+    ensures none { IfNone result ((v : ℕ) → v < length trail.now.at.items → 0 < slice_index trail.now.at.items v) }
+{
+    if let Some(var) = order.pick(&trail.values) {
+        if is_open(&trail.at, var) {
+            return Some(var);
+        }
+    }
+    free(&trail.at)
+}
+
+// Whether a variable has no value.
+fn is_open(at: &[usize], var: usize) -> bool
+    ensures { result ≡ true → (var < length at.now) × (slice_index at.now var ≡ 0) }
+{
+    var < at.len() && at[var] == 0
+}
+
 // One step: what follows, and then a conflict or a decision.
 fn step(
     alloc: Global,
     vars: usize,
-    formula: &Formula,
+    formula: &Joined,
     s: &mut Solver,
     guide: &mut Guide,
     from: usize,
@@ -318,9 +334,9 @@ fn step(
     requires keeps { Keeps vars formula.now s.old }
     ensures { IfOk result (HasGone vars formula.now s.old s.new) }
 {
-    match propagate(vars, formula, s, guide, from)? {
+    match propagate(alloc, vars, formula, s, guide, from)? {
         Some(number) => meet_at(alloc, vars, formula, s, &mut guide.order, number),
-        None => match guide.order.pick(&s.trail.at) {
+        None => match pick(&mut guide.order, &s.trail) {
             Some(var) => guess(vars, formula, s, var, guide.order.phase_of(var)),
             None => check_all(alloc, vars, formula, s, &mut guide.order),
         },
@@ -330,7 +346,7 @@ fn step(
 // Back to the first level.
 fn restart(
     vars: usize,
-    formula: &Formula,
+    formula: &Joined,
     s: &mut Solver,
     order: &mut Order,
 ) -> Result<(), AllocError>
@@ -364,12 +380,12 @@ fn raise_last(s: &Solver, order: &mut Order, uses: &mut Uses) {
 
 // Watches the clause that a conflict had learned, and looks no more at those that conflicts use seldom.
 fn take_in(s: &Solver, guide: &mut Guide, uses: &mut Uses) -> Result<(), AllocError> {
-    guide.attach(&s.db, &s.trail)?;
+    guide.attach(&s.db, &s.trail.lits, &s.trail.at)?;
     raise_last(s, &mut guide.order, uses);
     uses.add()?;
     if uses.are_many(s.trail.lits.len()) {
         uses.choose(&s.db)?;
-        guide.extra.forget(&s.db, uses);
+        guide.extra.forget(&s.db, uses)?;
     }
     Ok(())
 }
@@ -424,8 +440,8 @@ pub fn decide(
     requires size { length trail.at.items ≡ vars }
     ensures { IfOk result (λ d. IsOutcome vars (shared.now ++ own.now) d.outcome) }
 {
-    let formula = Formula::new(shared, own)?;
-    let db = Clauses::new(Formula::new(shared, own)?, learned);
+    let formula = Joined::new(shared, own)?;
+    let db = Clauses::new(Joined::new(shared, own)?, learned);
     let start = Solver {
         db,
         log: Vec::new(alloc),
@@ -439,7 +455,7 @@ pub fn decide(
 fn search(
     alloc: Global,
     vars: usize,
-    formula: &Formula,
+    formula: &Joined,
     start: Solver,
     units: &[u32],
     guide: &mut Guide,
@@ -449,7 +465,7 @@ fn search(
     ensures { IfOk result (λ d. IsOutcome vars formula.now d.outcome) }
 {
     let mut s = start;
-    guide.attach(&s.db, &s.trail)?;
+    guide.attach(&s.db, &s.trail.lits, &s.trail.at)?;
     read_units(vars, formula, &mut s, units)?;
     read_units(vars, formula, &mut s, guide.units.as_slice())?;
     let mut uses = Uses::new(alloc, formula.len());

@@ -3,24 +3,8 @@
 ghost use Rattle.std.specs.Prelude.{MatchOption, IfSome, IfNone, if◌then◌else◌, ◌≡◌, ◌≢◌, ◌≤◌, ◌<◌, ◌+◌, ◌-◌, ◌*◌, ◌/◌, ◌%◌, ◌^◌, ◌++◌, ◌∷◌, [], ℕ, Bool, true, false, List, IfOk, OnOk, OnErr, length, slice_index, slice_index_or, slice_set, map, take, reverse, vec_len, vec_capacity, ◌⊎◌, ◌↔◌, IsTrue};
 ghost use Rattle.sat_core.specs.Trail.{IsPlaced, AreStarts, StandsBelow, IsLevelOf};
 
+use cnf_store::Value;
 use std::alloc::{AllocError, Global};
-
-/// What a literal seems to be.
-#[derive(Clone, Copy, PartialEq, Eq)]
-pub enum Value {
-    Free,
-    True,
-    False,
-}
-
-/// What a table of values has at a literal.
-pub fn value_in(values: &[Value], lit: u32) -> Value {
-    if (lit as usize) < values.len() {
-        values[lit as usize]
-    } else {
-        Value::Free
-    }
-}
 
 // Writes what a literal seems to be.
 fn set_value(values: &mut [Value], lit: u32, value: Value) {

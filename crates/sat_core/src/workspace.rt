@@ -2,10 +2,9 @@
 
 ghost use Rattle.std.specs.Prelude.{◌≡◌, ◌<◌, ◌^◌, [], IfOk, length};
 
-use crate::guide::Guide;
-use crate::hints::Hints;
 use crate::trail::Trail;
 use cnf_store::Arena;
+use sat_guide::{Guide, Hints};
 use std::alloc::{AllocError, Global};
 
 /// What one question leaves to the next, over any formulas: nothing is copied where they share one. It holds no more than a
@@ -34,7 +33,12 @@ pub(crate) struct Kept {
 
 impl Kept {
     /// For questions over a formula of so many variables.
-    pub fn new(alloc: Global, vars: usize, hints: &Hints) -> Result<Kept, AllocError>
+    pub fn new(
+        alloc: Global,
+        vars: usize,
+        clauses: &Arena<u32>,
+        hints: &Hints,
+    ) -> Result<Kept, AllocError>
         requires { vars < 2 ^ 31 }
     {
         Ok(Kept {
@@ -42,7 +46,7 @@ impl Kept {
             clause: Vec::new(alloc),
             learned: Arena::new(alloc),
             trail: Trail::new(alloc, vars)?,
-            guide: Guide::new(alloc, vars, hints)?,
+            guide: Guide::new(alloc, vars, clauses, hints)?,
         })
     }
 
@@ -63,7 +67,7 @@ impl Kept {
         } = self;
         own.cut(0);
         learned.cut(0);
-        guide.end(&trail)?;
+        guide.end(&trail.lits)?;
         Ok(Kept {
             own,
             clause,

@@ -1,7 +1,7 @@
 //! Which learned clauses to go on watching: the short ones, and the half that conflicts used most of late (Eén and Sörensson,
 //! SAT 2003). The others stay in the derivation, but are looked at no more. No fact rests on it.
 
-use crate::clauses::Clauses;
+use cnf_store::Clauses;
 use std::alloc::{AllocError, Global};
 
 /// How much each learned clause was used, and how many may be watched.

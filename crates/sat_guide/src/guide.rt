@@ -1,15 +1,12 @@
-//! Where a search looks and what it decides first, kept from question to question: a question costs what it touches. No fact
-//! rests on it.
+//! Where a search looks and what it decides first, kept from question to question: a question costs what it touches.
 
-ghost use Rattle.std.specs.Prelude.{◌<◌, ◌^◌};
+ghost use Rattle.std.specs.Prelude.{◌≡◌, ◌<◌, ◌^◌, []};
 
-use crate::chains::Watches;
-use crate::clauses::Clauses;
 use crate::cone::Visits;
 use crate::hints::{Hints, list_units};
 use crate::ordering::Order;
-use crate::trail::Trail;
-use cnf_store::Arena;
+use crate::watches::Watches;
+use cnf_store::{Arena, Clauses, Joined};
 use std::alloc::{AllocError, Global};
 
 /// The watches of the clauses that questions share; those of the question's own and of what it learned; the order in which
@@ -21,19 +18,25 @@ pub struct Guide {
     pub shared: Watches,
     pub extra: Watches,
     pub order: Order,
+    /// The question's clauses of at most one literal, counted from 0.
     pub units: Vec<u32>,
     visits: Visits,
 }
 
 impl Guide {
     /// For questions over a formula of so many variables.
-    pub fn new(alloc: Global, vars: usize, hints: &Hints) -> Result<Guide, AllocError>
+    pub fn new(
+        alloc: Global,
+        vars: usize,
+        clauses: &Arena<u32>,
+        hints: &Hints,
+    ) -> Result<Guide, AllocError>
         requires { vars < 2 ^ 31 }
     {
         Ok(Guide {
             mark: hints.mark,
             vars,
-            shared: hints.watches.copy(alloc)?,
+            shared: watched(alloc, vars, clauses)?,
             extra: Watches::new(alloc, vars)?,
             order: Order::new(alloc, vars)?,
             units: Vec::new(alloc),
@@ -50,6 +53,7 @@ impl Guide {
     /// a value.
     pub fn begin(
         &mut self,
+        alloc: Global,
         vars: usize,
         hints: &Hints,
         own: &Arena<u32>,
@@ -57,8 +61,8 @@ impl Guide {
     ) -> Result<(), AllocError>
         requires { vars < 2 ^ 31 }
     {
-        self.shared.widen(vars)?;
-        self.extra.widen(vars)?;
+        self.shared.widen(alloc, vars)?;
+        self.extra.widen(alloc, vars)?;
         self.extra.clear(first);
         self.order.begin(self.vars, vars)?;
         self.units.clear();
@@ -67,15 +71,26 @@ impl Guide {
     }
 
     /// Watches the clauses that aren't watched yet.
-    pub fn attach(&mut self, db: &Clauses, trail: &Trail) -> Result<(), AllocError> {
-        self.extra.attach(db, trail)
+    pub fn attach(&mut self, db: &Clauses, lits: &[u32], at: &[usize]) -> Result<(), AllocError> {
+        self.extra.attach(db, lits, at)
     }
 
-    /// Ends a question: keeps the values of the trail, which is then emptied, for the next.
-    pub fn end(&mut self, trail: &Trail) -> Result<(), AllocError> {
-        for lit in trail.lits.iter() {
+    /// Ends a question: keeps the values of these literals, which are then taken back, for the next.
+    pub fn end(&mut self, lits: &[u32]) -> Result<(), AllocError> {
+        for lit in lits {
             self.order.release(*lit)?;
         }
         Ok(())
     }
+}
+
+// The watches of a formula of which nothing is decided.
+fn watched(alloc: Global, vars: usize, clauses: &Arena<u32>) -> Result<Watches, AllocError>
+    requires { vars < 2 ^ 31 }
+{
+    let none = Arena::new(alloc);
+    let db = Clauses::new(Joined::new(clauses, &none)?, Arena::new(alloc));
+    let mut watches = Watches::new(alloc, vars)?;
+    watches.attach(&db, &[], &[])?;
+    Ok(watches)
 }

@@ -1,38 +1,25 @@
-//! What is made once of a formula, so that a search over it knows where to look. No fact rests on it.
+//! What is made once of a formula that many questions share.
 
-ghost use Rattle.std.specs.Prelude.{◌<◌, ◌^◌};
-
-use crate::chains::Watches;
-use crate::clauses::{Clauses, Formula};
 use crate::cone::Cone;
-use crate::trail::Trail;
 use cnf_store::Arena;
 use std::alloc::{AllocError, Global};
 
-/// The watches of a formula's clauses, which of them have one literal, and on what its variables rest.
+/// Which of a formula's clauses have at most one literal, and on what its variables rest.
 #[derive(Drop)]
 pub struct Hints {
-    pub watches: Watches,
+    /// The clauses of at most one literal, counted from 0.
     pub units: Vec<u32>,
-    pub cone: Cone,
-    /// A mark by which another formula is told apart.
-    pub mark: u64,
+    pub(crate) cone: Cone,
+    // by which another formula is told apart
+    pub(crate) mark: u64,
 }
 
 impl Hints {
     /// Those of a formula over these variables.
-    pub fn new(alloc: Global, vars: usize, clauses: &Arena<u32>) -> Result<Hints, AllocError>
-        requires { vars < 2 ^ 31 }
-    {
-        let none = Arena::new(alloc);
-        let db = Clauses::new(Formula::new(clauses, &none)?, Arena::new(alloc));
-        let trail = Trail::new(alloc, vars)?;
-        let mut watches = Watches::new(alloc, vars)?;
-        watches.attach(&db, &trail)?;
+    pub fn new(alloc: Global, vars: usize, clauses: &Arena<u32>) -> Result<Hints, AllocError> {
         let mut units = Vec::new(alloc);
         list_units(clauses, 0, &mut units)?;
         Ok(Hints {
-            watches,
             units,
             cone: Cone::new(alloc, vars, clauses)?,
             mark: mark_of(clauses),

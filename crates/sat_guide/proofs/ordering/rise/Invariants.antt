@@ -1,5 +1,5 @@
 use Rattle.std.proofs.Common.{◌<◌, ◌^◌}
-use Rattle.sat_core.proofs.ordering.rise.Given as goal
+use Rattle.sat_guide.proofs.ordering.rise.Given as goal
 
 abbrev pub invariant-up : goal.invariant-up
 invariant-up l = l.i < 2 ^ 63
