@@ -11,6 +11,8 @@ mod guide;
 mod hints;
 mod ordering;
 mod pace;
+#[cfg(test)]
+mod tests;
 mod uses;
 mod watches;
 
