@@ -1,5 +1,5 @@
-pub mod Implying
-pub mod Levels
 pub mod Placing
-pub mod Reasons
-pub mod Storing
+pub mod Ranks
+pub mod Seeing
+pub mod Upkeep
+pub mod Valuing

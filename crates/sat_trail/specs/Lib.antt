@@ -1,3 +1,3 @@
-pub mod Assigned
-pub mod Laws
-pub mod Stored
+pub mod Trail
+pub mod Rank
+pub mod Looking
