@@ -1,3 +1,5 @@
-pub mod Trail
-pub mod Rank
+pub mod Implying
+pub mod Laws
 pub mod Looking
+pub mod Rank
+pub mod Trail

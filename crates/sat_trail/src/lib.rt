@@ -6,8 +6,10 @@
 //! is complemented. All memory is taken when the trail is made, and a literal's value is one read.
 #![tactic(auto)]
 
+mod laws;
 mod looking;
 mod trail;
 
-pub use looking::{Found, Look};
+pub use laws::reasons_imply;
+pub use looking::{Found, Implied, Look};
 pub use trail::{Trail, complement};

@@ -3,13 +3,14 @@
 ghost use Rattle.std.specs.Prelude.{◌≡◌, ◌<◌, ◌*◌, ℕ, IfSome, IfNone, length, slice_index};
 ghost use Rattle.std.specs.List.{All};
 ghost use Rattle.cnf_store.specs.Codes.{AreWithin};
+ghost use Rattle.sat_trail.specs.Implying.{IsImplied};
 ghost use Rattle.sat_trail.specs.Looking.{IsFound, IsLook};
 
 use crate::trail::Trail;
 use cnf_store::{Clauses, Value};
 
 /// What a clause is under the trail.
-#[derive(Drop)]
+#[derive(Clone, Copy, PartialEq, Eq)]
 pub enum Found {
     /// Some literal is true.
     Holds,
@@ -22,11 +23,22 @@ pub enum Found {
 }
 
 /// What the first clause says that is neither true nor open. Clauses are counted from 1.
-#[derive(Drop)]
+#[derive(Clone, Copy, PartialEq, Eq)]
 pub enum Look {
     Implied(u32, u64),
     Conflict(u64),
     Quiet,
+}
+
+/// What a clause says of one of its literals.
+#[derive(Clone, Copy, PartialEq, Eq)]
+pub enum Implied {
+    /// It is free, and all others are false.
+    Unit,
+    /// All literals are false, this one too.
+    Wrong,
+    /// Some other literal isn't false, or this one is true.
+    Neither,
 }
 
 impl Trail {
@@ -35,24 +47,42 @@ impl Trail {
         requires within { All (λ l. l < 2 * length self.now.at.items) clause.now }
         ensures { IsFound self.now.lits.items self.now.at.items clause.now result }
     {
-        let mut unit = u32::MAX;
+        let mut unit = None;
         for lit in clause {
             match self.value(*lit) {
                 Value::True => return Found::Holds,
                 Value::False => {}
+                Value::Free => match unit {
+                    Some(_) => return Found::Open,
+                    None => unit = Some(*lit),
+                },
+            }
+        }
+        match unit {
+            Some(lit) => Found::Unit(lit),
+            None => Found::Wrong,
+        }
+    }
+
+    /// Looks whether a clause implies this literal, or is false. The look ends at the first other literal that isn't false.
+    pub fn implies(&self, clause: &[u32], other: u32) -> Implied
+        requires within { All (λ l. l < 2 * length self.now.at.items) clause.now }
+        ensures { IsImplied self.now.lits.items self.now.at.items clause.now other result }
+    {
+        let mut has = false;
+        for lit in clause {
+            match self.value(*lit) {
+                Value::False => {}
+                Value::True => return Implied::Neither,
                 Value::Free => {
-                    if unit != u32::MAX {
-                        return Found::Open;
+                    if *lit != other {
+                        return Implied::Neither;
                     }
-                    unit = *lit;
+                    has = true;
                 }
             }
         }
-        if unit == u32::MAX {
-            Found::Wrong
-        } else {
-            Found::Unit(unit)
-        }
+        if has { Implied::Unit } else { Implied::Wrong }
     }
 
     /// Looks at all clauses.
