@@ -1,8 +1,11 @@
-use Rattle.std.proofs.Common.{◌≡◌, ◌≢◌, ◌≤◌, ◌<◌, ◌+◌, ◌-◌, ◌/◌, ◌==◌, ℕ, zero, suc, List, [], ◌∷◌, ◌++◌, set, take, length, get_or, arith, sym, ◌∙◌, ap, subst, refl, ◌⊎◌, inl, inr, ⊎_elim, true, false, length-set, get_or-set_same, get_or-set_other, get_or-take}
+-- Each literal has its place, each place its literal, and each decision opens a level.
+use Rattle.std.proofs.Common.{◌≡◌, ◌≢◌, ◌≤◌, ◌<◌, ◌+◌, ◌-◌, ◌*◌, ◌/◌, ◌==◌, ℕ, zero, suc, List, [], ◌∷◌, ◌++◌, set, take, length, get_or, arith, sym, ◌∙◌, ap, subst, refl, ◌⊎◌, inl, inr, ⊎_elim, true, false, length-set, get_or-set_same, get_or-set_other, get_or-take}
 use Rattle.std.proofs.lemmas.Bool.{cases_eq, cases_lt, eq-eqb, ne_eqb}
-use Rattle.std.proofs.lemmas.List.{length_push, get_or_push, get_or_append_left, length-take-le, get_or_default}
+use Rattle.std.proofs.lemmas.List.{length_push, get_or_push, get_or_append_left, length-take-le}
 use Rattle.std.specs.Prelude.{if◌then◌else◌}
-use Rattle.sat_trail.specs.Trail.{IsPlaced, AreStarts, zeros}
+use Rattle.sat_trail.specs.Trail.{IsPlaced, AreStarts, StandsBelow, zeros}
+use Rattle.cnf_store.specs.Codes.{neg}
+use Rattle.cnf_store.proofs.Lits.{neg_var}
 
 -- two places with one variable are one
 pub same_place : (vars : ℕ) (lits at : List ℕ) (p q : ℕ) → IsPlaced vars lits at → p < length lits → q < length lits → get_or lits p 0 / 2 ≡ get_or lits q 0 / 2 → p ≡ q
@@ -11,20 +14,44 @@ same_place vars lits at p q is hp hq e =
     let c : get_or at (get_or lits p 0 / 2) 0 ≡ get_or at (get_or lits q 0 / 2) 0 = ap (λ (v : ℕ). get_or at v 0) e in
     omega arith
 
+-- a literal on the trail is where the table says
+pub stands_placed : (vars : ℕ) (lits at : List ℕ) (limit l : ℕ) → IsPlaced vars lits at → limit ≤ length lits → StandsBelow lits limit l
+    → (0 < get_or at (l / 2) 0) × (get_or at (l / 2) 0 - 1 < limit) × (get_or lits (get_or at (l / 2) 0 - 1) 0 ≡ l)
+stands_placed vars lits at limit l is le (q, lt, e) =
+    let a = (is.placed q (omega arith)).1 in
+    let v : get_or lits q 0 / 2 ≡ l / 2 = ap (λ (x : ℕ). x / 2) e in
+    let b : get_or at (l / 2) 0 ≡ q + 1 = subst (λ (x : ℕ). get_or at x 0 ≡ q + 1) v a in
+    let p : get_or at (l / 2) 0 - 1 ≡ q = omega arith in
+    (omega arith, omega arith, ap (λ (x : ℕ). get_or lits x 0) p ∙ e)
+
+-- and so is the complement of one that is false
+pub place_of : (vars : ℕ) (lits at : List ℕ) (limit l : ℕ) → IsPlaced vars lits at → limit ≤ length lits → StandsBelow lits limit (neg l)
+    → (0 < get_or at (l / 2) 0) × (get_or at (l / 2) 0 - 1 < limit) × (get_or lits (get_or at (l / 2) 0 - 1) 0 ≡ neg l)
+place_of vars lits at limit l is le stands =
+    subst (λ (v : ℕ). (0 < get_or at v 0) × (get_or at v 0 - 1 < limit) × (get_or lits (get_or at v 0 - 1) 0 ≡ neg l)) (neg_var l) (stands_placed vars lits at limit (neg l) is le stands)
+
+-- literals on the trail are within the variables, and their complements
+pub stands_small : (vars : ℕ) (lits at : List ℕ) (limit l : ℕ) → IsPlaced vars lits at → limit ≤ length lits → StandsBelow lits limit (neg l) → l < 2 * vars
+stands_small vars lits at limit l is le (q, lt, e) = let a = (is.placed q (omega arith)).0 in omega arith
+
+-- a place given to a variable that has none
 zeros_set : (xs : List ℕ) (v x : ℕ) → v < length xs → get_or xs v 0 ≡ 0 → 0 < x → zeros (set xs v x) + 1 ≡ zeros xs
 zeros_set [] v x lt e pos = absurd (omega arith)
 zeros_set (y ∷ ys) zero x lt e pos = let a : (y == 0) ≡ true = eq-eqb y 0 e in let b : (x == 0) ≡ false = ne_eqb x 0 (λ z. omega arith) in rw (a, b) (omega arith)
 zeros_set (y ∷ ys) (suc v) x lt e pos = let h = zeros_set ys v x (omega arith) e pos in omega arith
 
+-- a place taken from a variable that has one
 zeros_clear : (xs : List ℕ) (v : ℕ) → v < length xs → 0 < get_or xs v 0 → zeros (set xs v 0) ≡ zeros xs + 1
 zeros_clear [] v lt pos = absurd (omega arith)
 zeros_clear (y ∷ ys) zero lt pos = let a : (y == 0) ≡ false = ne_eqb y 0 (λ z. omega arith) in rw a (omega arith)
 zeros_clear (y ∷ ys) (suc v) lt pos = let h = zeros_clear ys v (omega arith) pos in omega arith
 
+-- so many zeros at most as entries
 zeros_le : (xs : List ℕ) → zeros xs ≤ length xs
 zeros_le [] = omega arith
 zeros_le (x ∷ xs) = let h = zeros_le xs in elim (x == 0) as (λ b. (if b then 1 else 0) + zeros xs ≤ suc (length xs)) [ true ↦ omega arith | false ↦ omega arith ]
 
+-- one more literal, of a variable without a place
 pub placed_push : (vars : ℕ) (lits at : List ℕ) (l : ℕ) → IsPlaced vars lits at → l / 2 < vars → get_or at (l / 2) 0 ≡ 0 → IsPlaced vars (lits ++ l ∷ []) (set at (l / 2) (length lits + 1))
 placed_push vars lits at l is lt free =
     let n : ℕ = length lits in
@@ -53,6 +80,7 @@ placed_push vars lits at l is lt free =
       count = let z = zeros_set at (l / 2) (n + 1) room free (omega arith) in omega (arith, is.count);
     }
 
+-- the newest literal taken back
 pub placed_pop : (vars : ℕ) (lits at : List ℕ) (l : ℕ) → IsPlaced vars (lits ++ l ∷ []) at → IsPlaced vars lits (set at (l / 2) 0)
 placed_pop vars lits at l is =
     let n : ℕ = length lits in
@@ -80,15 +108,18 @@ placed_pop vars lits at l is =
       count = let z = zeros_clear at (l / 2) room (omega (arith, here.1)) in omega (arith, is.count);
     }
 
+-- no literal, and no place
 pub placed_none : (vars : ℕ) (at : List ℕ) → length at ≡ vars → ((v : ℕ) → get_or at v 0 ≡ 0) → zeros at ≡ vars → IsPlaced vars [] at
 placed_none vars at e none z = record { size = e; placed = λ i h. absurd (omega arith); found = λ v h. absurd (let n = none v in omega arith); count = omega arith }
 
+-- a table of zeros has as many as entries
 pub zeros_all : (n : ℕ) (xs : List ℕ) → length xs ≡ n → ((v : ℕ) → get_or xs v 0 ≡ 0) → zeros xs ≡ n
 zeros_all zero [] e all = refl
 zeros_all zero (x ∷ xs) e all = absurd (omega arith)
 zeros_all (suc n) [] e all = absurd (omega arith)
 zeros_all (suc n) (x ∷ xs) e all = let h = zeros_all n xs (omega arith) (λ v. all (suc v)) in let a : (x == 0) ≡ true = eq-eqb x 0 (all 0) in rw a (omega arith)
 
+-- an implied literal opens no level
 pub starts_imply : (reasons starts : List ℕ) (r : ℕ) → AreStarts reasons starts → 0 < r → AreStarts (reasons ++ r ∷ []) starts
 starts_imply reasons starts r s pos =
     let len = length_push reasons r in record {
@@ -98,9 +129,11 @@ starts_imply reasons starts r s pos =
           (λ (b : length reasons ≤ p). let e : get_or (reasons ++ r ∷ []) p 0 ≡ r = get_or_push reasons r 0 p (omega arith) in omega arith) (cases_lt p (length reasons));
     }
 
+-- one of two numbers is at most the other
 cases_le : (m n : ℕ) → (m ≤ n) ⊎ (n < m)
 cases_le m n = ⊎_elim (λ (a : n < m). inr a) (λ (b : m ≤ n). inl b) (cases_lt n m)
 
+-- a decision opens a level at its place
 pub starts_decide : (reasons starts : List ℕ) (n : ℕ) → n ≡ length reasons → AreStarts reasons starts → AreStarts (reasons ++ 0 ∷ []) (starts ++ n ∷ [])
 starts_decide reasons starts n is s =
     let len = length_push reasons 0 in
@@ -126,9 +159,7 @@ starts_decide reasons starts n is s =
           (cases_le j (length starts));
     }
 
-get_or_swap : (xs : List ℕ) (i d e : ℕ) → i < length xs → get_or xs i d ≡ get_or xs i e
-get_or_swap xs i d e lt = get_or_default xs i d e lt
-
+-- levels and places from the start of one on taken back
 pub starts_cut : (reasons starts : List ℕ) (level cut : ℕ) → AreStarts reasons starts → level < length starts → get_or starts level 0 ≡ cut → AreStarts (take cut reasons) (take level starts)
 starts_cut reasons starts level cut s lt is =
     let c = s.each level lt in
@@ -145,9 +176,11 @@ starts_cut reasons starts level cut s lt is =
           omega arith;
     }
 
+-- no place, and no level
 pub starts_none : AreStarts [] []
 starts_none = record { each = λ j h. absurd (omega arith); rising = λ j k l h. absurd (omega arith); between = λ j p le low high h. absurd (omega arith) }
 
+-- each level below has a place of its own
 start_ge : (reasons starts : List ℕ) → AreStarts reasons starts → (j : ℕ) → j < length starts → j ≤ get_or starts j 0
 start_ge reasons starts s zero lt = omega arith
 start_ge reasons starts s (suc j) lt = let h = start_ge reasons starts s j (omega arith) in let r = s.rising j (suc j) (omega arith) lt in omega arith

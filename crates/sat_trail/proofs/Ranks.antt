@@ -1,15 +1,19 @@
+-- The rank of a trail: below its bound, and raised by each step.
 use Rattle.std.proofs.Common.{◌≡◌, ◌<◌, ◌*◌, ◌^◌, ◌==◌, ℕ, zero, suc, List, [], ◌∷◌, ◌++◌, take, length, get_or, arith, ◌⊎◌, inl, inr, ⊎_elim, true, false, refl}
 use Rattle.std.specs.Prelude.{if◌then◌else◌}
 use Rattle.std.proofs.Math.Nat.{pow-zero, pow-suc}
 use Rattle.std.proofs.Common.{ne_eqb}
 use Rattle.sat_trail.specs.Rank.{digit, rank}
 
+-- a digit is one or two
 digit_cases : (r : ℕ) (p : ℕ) → (digit r * p ≡ p) ⊎ (digit r * p ≡ 2 * p)
 digit_cases r p = elim (r == 0) as (λ b. ((if b then 1 else 2) * p ≡ p) ⊎ ((if b then 1 else 2) * p ≡ 2 * p)) [ true ↦ inl (omega arith) | false ↦ inr (omega arith) ]
 
+-- a decision counts once
 digit_zero : (r : ℕ) (p : ℕ) → r ≡ 0 → digit r * p ≡ p
 digit_zero r p e = rw e (omega arith)
 
+-- an implied literal counts twice
 digit_pos : (r : ℕ) (p : ℕ) → 0 < r → digit r * p ≡ 2 * p
 digit_pos r p h = let e : (r == 0) ≡ false = ne_eqb r 0 (λ z. omega arith) in rw e refl
 
@@ -22,6 +26,7 @@ rank_below (suc n) (r ∷ rs) =
     let h = rank_below n rs in
     ⊎_elim (λ (d : digit r * 3 ^ n ≡ 3 ^ n). omega (arith, pow-suc 3 n)) (λ (d : digit r * 3 ^ n ≡ 2 * 3 ^ n). omega (arith, pow-suc 3 n)) (digit_cases r (3 ^ n))
 
+-- no power of three is zero
 pow_pos : (n : ℕ) → 0 < 3 ^ n
 pow_pos n = omega (arith, rank_below n [])
 

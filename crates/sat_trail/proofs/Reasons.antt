@@ -1,5 +1,5 @@
 -- Each literal of a trail is true where the clauses and the decisions are.
-use Rattle.std.proofs.Common.{◌≡◌, ◌≢◌, ◌<◌, ◌-◌, ◌/◌, ◌%◌, ◌==◌, ℕ, zero, suc, List, [], length, get_or, arith, sym, ◌∙◌, ap, subst, ◌⊎◌, ⊎_elim, Bool, false}
+use Rattle.std.proofs.Common.{◌≡◌, ◌≢◌, ◌<◌, ◌-◌, ◌%◌, ◌==◌, ℕ, zero, suc, List, [], length, get_or, arith, sym, ◌∙◌, ap, subst, ◌⊎◌, ⊎_elim, Bool, false}
 use Rattle.std.specs.List.{Any}
 use Rattle.std.proofs.lemmas.Bool.{false≢true, cases_eq, eq-eqb, ne_eqb}
 use Rattle.cnf_store.specs.Codes.{neg, clause_at, MakesTrue, Satisfies}
@@ -33,6 +33,7 @@ below clauses lits reasons row all sat decided (suc n) i lt inside = ⊎_elim
     (subst (λ (x : ℕ). (x ≡ get_or lits i 0) ⊎ StandsBelow lits i (neg x)) some.3 (why.others some.0 m some.2)))
     (cases_eq (get_or reasons i 0) 0)
 
+-- all of them: the law
 pub reasons_imply : (clauses : List (List ℕ)) (lits reasons : List ℕ) (row : List Bool) → AreReasoned clauses lits reasons → Satisfies row clauses
     → ((i : ℕ) → i < length lits → get_or reasons i 0 ≡ 0 → MakesTrue row (get_or lits i 0))
     → (i : ℕ) → i < length lits → MakesTrue row (get_or lits i 0)

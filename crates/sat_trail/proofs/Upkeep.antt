@@ -1,3 +1,4 @@
+-- Reasons stay reasons while the trail and the clauses grow, and when it goes back.
 use Rattle.std.proofs.Common.{◌≡◌, ◌≢◌, ◌≤◌, ◌<◌, ◌-◌, ◌/◌, ◌==◌, ℕ, zero, suc, List, [], ◌∷◌, ◌++◌, take, length, get_or, arith, sym, ◌∙◌, ap, subst, refl, ◌⊎◌, inl, inr, ⊎_elim, true, get_or-take}
 use Rattle.std.proofs.lemmas.Bool.{cases_eq, cases_lt, eq-eqb}
 use Rattle.std.proofs.lemmas.List.{length_push, get_or_push, get_or_append_left, length-take-le}
@@ -14,9 +15,11 @@ reasoned_along db a b i r same w = record {
   others = λ k d lt. ⊎_elim (λ (e : get_or (clause_at db r) k d ≡ get_or a i 0). inl (e ∙ sym (same i (omega arith)))) (λ (s : StandsBelow a i (neg (get_or (clause_at db r) k d))). inr (s.0, s.1, same s.0 (omega (arith, s.1)) ∙ s.2)) (w.others k d lt);
 }
 
+-- a clause stays where one more is added
 clause_same : (db : List (List ℕ)) (c : List ℕ) (r : ℕ) → 0 < r → r ≤ length db → clause_at (db ++ c ∷ []) r ≡ clause_at db r
 clause_same db c r pos le = get_or_append_left db (c ∷ []) [] (r - 1) (omega arith)
 
+-- a reason stays where one more is added
 reasoned_db : (db : List (List ℕ)) (c lits : List ℕ) (i r : ℕ) → 0 < r → Reasoned db lits i r → Reasoned (db ++ c ∷ []) lits i r
 reasoned_db db c lits i r pos w =
     let e = clause_same db c r pos w.known in record {
@@ -25,9 +28,11 @@ reasoned_db db c lits i r pos w =
       others = subst (λ (xs : List ℕ). All (λ m. (m ≡ get_or lits i 0) ⊎ StandsBelow lits i (neg m)) xs) (sym e) w.others;
     }
 
+-- all reasons stay
 pub are_reasoned_db : (db : List (List ℕ)) (c lits reasons : List ℕ) → AreReasoned db lits reasons → AreReasoned (db ++ c ∷ []) lits reasons
 are_reasoned_db db c lits reasons all = λ i lt pos. reasoned_db db c lits i (get_or reasons i 0) pos (all i lt pos)
 
+-- the older literals keep their reasons
 pub are_reasoned_take : (db : List (List ℕ)) (lits reasons : List ℕ) (cut : ℕ) → cut ≤ length lits → AreReasoned db lits reasons → AreReasoned db (take cut lits) (take cut reasons)
 are_reasoned_take db lits reasons cut le all = λ i lt pos.
     let n = length-take-le cut lits le in
@@ -35,6 +40,7 @@ are_reasoned_take db lits reasons cut le all = λ i lt pos.
     let w = all i (omega arith) (omega arith) in
     subst (Reasoned db (take cut lits) i) (sym e) (reasoned_along db lits (take cut lits) i (get_or reasons i 0) (λ q h. get_or-take cut lits q 0 (omega arith)) w)
 
+-- one more literal, with a reason where its number is one
 pub are_reasoned_push : (db : List (List ℕ)) (lits reasons : List ℕ) (l r : ℕ) → length reasons ≡ length lits → AreReasoned db lits reasons → (0 < r → Reasoned db (lits ++ l ∷ []) (length lits) r) → AreReasoned db (lits ++ l ∷ []) (reasons ++ r ∷ [])
 are_reasoned_push db lits reasons l r len all new = λ i lt pos.
     let n = length_push lits l in
@@ -57,6 +63,7 @@ reasoned_new db lits l r le has others =
       others = λ k d lt. ⊎_elim (λ (s : get_or (clause_at db r) k d ≡ l). inl (s ∙ sym e)) (λ (s : StandsBelow lits (length lits) (neg (get_or (clause_at db r) k d))). inr (s.0, s.1, get_or_append_left lits (l ∷ []) 0 s.0 s.1 ∙ s.2)) (others k d lt);
     }
 
+-- an entry that is zero is counted
 zeros_some : (xs : List ℕ) (v : ℕ) → v < length xs → get_or xs v 0 ≡ 0 → 0 < zeros xs
 zeros_some [] v lt e = absurd (omega arith)
 zeros_some (x ∷ xs) zero lt e = let a : (x == 0) ≡ true = eq-eqb x 0 e in rw a (omega arith)

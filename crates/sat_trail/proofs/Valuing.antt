@@ -1,12 +1,12 @@
 -- The table of values says what the places and the literals say.
-use Rattle.std.proofs.Common.{◌≡◌, ◌≢◌, ◌≤◌, ◌<◌, ◌+◌, ◌-◌, ◌*◌, ◌/◌, ◌==◌, ℕ, List, [], ◌∷◌, ◌++◌, set, length, get_or, replicate, arith, sym, ◌∙◌, ap, ap₂, subst, refl, ◌⊎◌, ⊎_elim, true, false, length-set, get_or-set_same, get_or-set_other}
+use Rattle.std.proofs.Common.{◌≡◌, ◌≢◌, ◌≤◌, ◌<◌, ◌+◌, ◌-◌, ◌*◌, ◌/◌, ◌==◌, ℕ, List, [], ◌∷◌, ◌++◌, set, length, get_or, replicate, arith, sym, ◌∙◌, ap, subst, refl, ⊎_elim, true, false, length-set, get_or-set_same, get_or-set_other}
 use Rattle.std.specs.Prelude.{if◌then◌else◌}
 use Rattle.std.proofs.lemmas.Bool.{cases_eq, cases_lt, eq-eqb, ne_eqb}
 use Rattle.std.proofs.lemmas.List.{length_push, get_or_push, get_or_append_left, get_or-replicate, get_or_past, length-replicate}
 use Rattle.cnf_store.specs.Codes.{neg}
 use Rattle.cnf_store.specs.declared.value.Value.{Value}
 use Rattle.cnf_store.specs.declared.value.Value.TheVariants.{Free, True, False}
-use Rattle.cnf_store.proofs.Lits.{neg_var, neg_other, neg_within, same_var}
+use Rattle.cnf_store.proofs.Lits.{neg_var, neg_other, same_var}
 use Rattle.sat_trail.specs.Trail.{IsPlaced, AreValues, value_of}
 use Rattle.sat_trail.proofs.Placing.{placed_pop}
 
@@ -14,18 +14,22 @@ use Rattle.sat_trail.proofs.Placing.{placed_pop}
 worth : ℕ → ℕ → ℕ → Value
 worth p x l = if p == 0 then Free else (if x == l then True else False)
 
+-- with no place
 worth_free : (p x l : ℕ) → p ≡ 0 → worth p x l ≡ Free
 unfolding worth
 worth_free p x l e = let a : (p == 0) ≡ true = eq-eqb p 0 e in rw a refl
 
+-- where it stands itself
 worth_true : (p x l : ℕ) → 0 < p → x ≡ l → worth p x l ≡ True
 unfolding worth
 worth_true p x l some e = let a : (p == 0) ≡ false = ne_eqb p 0 (λ z. omega arith) in let b : (x == l) ≡ true = eq-eqb x l e in rw (a, b) refl
 
+-- where another stands, its complement
 worth_false : (p x l : ℕ) → 0 < p → x ≢ l → worth p x l ≡ False
 unfolding worth
 worth_false p x l some ne = let a : (p == 0) ≡ false = ne_eqb p 0 (λ z. omega arith) in let b : (x == l) ≡ false = ne_eqb x l ne in rw (a, b) refl
 
+-- the same of the lists
 value_is : (lits at : List ℕ) (l : ℕ) → value_of lits at l ≡ worth (get_or at (l / 2) 0) (get_or lits (get_or at (l / 2) 0 - 1) 0) l
 unfolding worth
 value_is lits at l = refl
@@ -49,12 +53,15 @@ value_same lits more at now l e agree = ⊎_elim
 two_set : (values : List Value) (l k : ℕ) (a b : Value) → k ≢ l → k ≢ neg l → get_or (set (set values l a) (neg l) b) k Free ≡ get_or values k Free
 two_set values l k a b na nb = get_or-set_other (set values l a) (neg l) k b Free nb ∙ get_or-set_other values l k a Free na
 
+-- the first of two entries that were written
 first_set : (values : List Value) (l : ℕ) (a b : Value) → l < length values → get_or (set (set values l a) (neg l) b) l Free ≡ a
 first_set values l a b lt = get_or-set_other (set values l a) (neg l) l b Free (λ e. neg_other l (sym e)) ∙ get_or-set_same values l a Free lt
 
+-- the second of them
 second_set : (values : List Value) (l : ℕ) (a b : Value) → neg l < length values → get_or (set (set values l a) (neg l) b) (neg l) Free ≡ b
 second_set values l a b lt = get_or-set_same (set values l a) (neg l) b Free (omega (arith, length-set values l a))
 
+-- writing keeps the lengths
 size_set : (at : List ℕ) (values : List Value) (v x l : ℕ) (a b : Value) → length values ≡ 2 * length at → length (set (set values l a) (neg l) b) ≡ 2 * length (set at v x)
 size_set at values v x l a b e = omega (arith, length-set (set values l a) (neg l) b, length-set values l a, length-set at v x)
 
@@ -121,6 +128,7 @@ values_pop vars lits at values l is are =
           (cases_eq k l);
     }
 
+-- a table of free values is free at each entry
 free_at : (n l : ℕ) → get_or (replicate n Free) l Free ≡ Free
 free_at n l = ⊎_elim (λ (a : l < n). get_or-replicate n l Free Free a) (λ (b : n ≤ l). get_or_past (replicate n Free) l Free (omega (arith, length-replicate {A = Value} n Free))) (cases_lt l n)
 

@@ -1,6 +1,6 @@
 -- What a look at a literal, at a clause or at all clauses tells.
-use Rattle.std.specs.Prelude.{◌≡◌, ◌≤◌, ◌<◌, ◌/◌, ℕ, List, length, slice_index, ◌⊎◌, Option, Some, None, Bool, if◌then◌else◌}
-use Rattle.std.specs.List.{All, Any, Contains}
+use Rattle.std.specs.Prelude.{◌≡◌, ◌≤◌, ◌<◌, ◌/◌, ℕ, List, length, slice_index, ◌⊎◌}
+use Rattle.std.specs.List.{All, Any}
 use Rattle.cnf_store.specs.Codes.{neg, clause_at}
 use Rattle.cnf_store.specs.declared.value.Value.{Value}
 use Rattle.cnf_store.specs.declared.value.Value.TheVariants.{True, False, Free}
@@ -30,15 +30,6 @@ IsFound lits at clause Holds = IsTrueIn lits clause
 IsFound lits at clause Open = IsOpenIn at clause
 IsFound lits at clause (Unit l) = IsUnit lits at clause l
 IsFound lits at clause Wrong = IsWrong lits (length lits) clause
-
--- what is known of the clause's front: all false, or all but one, which is free
-abbrev pub SoFar : List ℕ → List ℕ → List ℕ → List ℕ → Option ℕ → Type 0
-SoFar lits at clause front None = IsWrong lits (length lits) front
-SoFar lits at clause front (Some u) = Contains clause u × (slice_index at (u / 2) ≡ 0) × All (λ m. (m ≡ u) ⊎ StandsBelow lits (length lits) (neg m)) front
-
--- the literal, where it was met
-abbrev pub met : Bool → ℕ → Option ℕ
-met has l = if has then Some l else None
 
 -- the first clause that implies a literal or is false; with none, each has a literal that is true or free
 abbrev pub IsLook : List (List ℕ) → List ℕ → List ℕ → Look → Type 0

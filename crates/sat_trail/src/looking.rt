@@ -107,8 +107,10 @@ impl Trail {
         ensures none { IfNone result ((v : ℕ) → v < length self.now.at.items → 0 < slice_index self.now.at.items v) }
     {
         for v in 0..self.at.len() {
-            if self.at[v] == 0 {
-                return Some(v);
+            match self.value(2 * v as u32) {
+                Value::Free => return Some(v),
+                Value::True => {}
+                Value::False => {}
             }
         }
         None

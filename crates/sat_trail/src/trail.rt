@@ -10,15 +10,18 @@ ghost use Rattle.sat_trail.specs.Looking.{IsWorth};
 use cnf_store::Value;
 use std::alloc::{AllocError, Global};
 
-/// What is assigned, from the oldest on. A literal's reason is the number of the clause that implied it, from 1 on, or 0
-/// where it was decided. A variable's place is counted from 1, and is 0 where it has none. The starts are the places of the
-/// decisions, counted from 0.
+/// What is assigned.
 #[derive(Drop)]
 pub struct Trail {
+    /// The literals from the oldest on; a place is one here, counted from 0.
     pub lits: Vec<u32>,
+    /// Beside each the number of the clause that implied it, from 1 on, or 0 where it was decided.
     pub reasons: Vec<u64>,
+    /// By variable: one past its place, or 0 where it has none.
     pub at: Vec<usize>,
+    /// The places of the decisions.
     pub starts: Vec<usize>,
+    /// By literal.
     pub values: Vec<Value>,
     ghost placed: { IsPlaced (length at.items) lits.items at.items },
     ghost valued: { AreValues lits.items at.items values.items },
@@ -35,6 +38,8 @@ impl Trail {
     pub fn new(alloc: Global, vars: usize) -> Result<Trail, AllocError>
         requires { vars < 2 ^ 31 }
         ensures lits { IfOk result (λ t. t.lits.items ≡ []) }
+        ensures reasons { IfOk result (λ t. t.reasons.items ≡ []) }
+        ensures starts { IfOk result (λ t. t.starts.items ≡ []) }
         ensures size { IfOk result (λ t. length t.at.items ≡ vars) }
     {
         let at = vec![in alloc; 0; vars]?;
@@ -118,6 +123,8 @@ impl Trail {
     /// Unassigns all.
     pub fn clear(&mut self)
         ensures lits { self.new.lits.items ≡ [] }
+        ensures reasons { self.new.reasons.items ≡ [] }
+        ensures starts { self.new.starts.items ≡ [] }
         ensures size { length self.new.at.items ≡ length self.old.at.items }
     {
         let Trail {

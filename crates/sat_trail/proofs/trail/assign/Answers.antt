@@ -1,8 +1,4 @@
-use Rattle.std.proofs.Common.{rules, arith, ◌≡◌, ◌+◌, ◌/◌, ◌++◌, ◌∷◌, [], ℕ, List, length, set, sym, ap, subst}
-use Rattle.cnf_store.specs.Codes.{neg}
-use Rattle.cnf_store.specs.declared.value.Value.{Value}
-use Rattle.cnf_store.specs.declared.value.Value.TheVariants.{True, False}
-use Rattle.sat_trail.specs.Trail.{IsPlaced, AreValues}
+use Rattle.std.proofs.Common.{rules, arith, ◌≡◌, ◌/◌, ℕ, List, length}
 use Rattle.sat_trail.proofs.Placing.{placed_push}
 use Rattle.sat_trail.proofs.Upkeep.{has_room}
 use Rattle.sat_trail.proofs.Valuing.{values_push}

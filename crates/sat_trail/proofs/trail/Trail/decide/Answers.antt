@@ -1,4 +1,4 @@
-use Rattle.std.proofs.Common.{rules, arith, ◌≡◌, ◌<◌, ◌+◌, ◌/◌, ◌++◌, ◌∷◌, [], ℕ, List, length, sym, ◌∙◌, ap, subst}
+use Rattle.std.proofs.Common.{rules, arith, ◌≡◌, ◌+◌, ◌/◌, ◌++◌, ◌∷◌, [], ℕ, List, length, sym, ◌∙◌, ap, subst}
 use Rattle.std.proofs.lemmas.List.{length_push}
 use Rattle.sat_trail.specs.Trail.{IsPlaced, AreStarts}
 use Rattle.sat_trail.proofs.Placing.{starts_decide, starts_le}

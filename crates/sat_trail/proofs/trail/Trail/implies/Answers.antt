@@ -1,5 +1,5 @@
-use Rattle.std.proofs.Common.{rules, arith, ◌≡◌, ◌+◌, ℕ, List, get_or, take, sym, subst, Bool}
-use Rattle.sat_trail.specs.Looking.{SoFar, met}
+use Rattle.std.proofs.Common.{rules, arith, ◌+◌, ℕ, List, take, sym, subst, Bool}
+use Rattle.sat_trail.proofs.Seeing.{SoFar, met}
 use Rattle.sat_trail.proofs.Seeing.{so_far_false, so_far_other, so_far_all, so_far_unit}
 use Rattle.sat_trail.proofs.trail.Trail.implies.Goals as goal
 use Rattle.sat_trail.proofs.trail.Trail.implies.Goals.{in-False, in-Free+else-lit-other}

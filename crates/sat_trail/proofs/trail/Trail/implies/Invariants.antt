@@ -1,5 +1,5 @@
 use Rattle.std.proofs.Common.{take}
-use Rattle.sat_trail.specs.Looking.{SoFar, met}
+use Rattle.sat_trail.proofs.Seeing.{SoFar, met}
 use Rattle.sat_trail.proofs.trail.Trail.implies.Given as goal
 
 abbrev pub invariant-loop-lit : goal.invariant-loop-lit

@@ -1,5 +1,5 @@
-use Rattle.std.proofs.Common.{arith, ◌≡◌, ◌+◌, ℕ, List, take, sym, subst, Option, Some, None}
-use Rattle.sat_trail.specs.Looking.{SoFar}
+use Rattle.std.proofs.Common.{arith, ◌+◌, ℕ, List, take, sym, subst, Option}
+use Rattle.sat_trail.proofs.Seeing.{SoFar}
 use Rattle.sat_trail.proofs.Seeing.{so_far_false, so_far_free, so_far_all, so_far_unit}
 use Rattle.sat_trail.proofs.trail.Trail.inspect.Goals as goal
 use Rattle.sat_trail.proofs.trail.Trail.inspect.Goals.{in-False, in-Free+in-None}

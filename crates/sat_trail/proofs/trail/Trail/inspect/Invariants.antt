@@ -1,5 +1,5 @@
 use Rattle.std.proofs.Common.{take}
-use Rattle.sat_trail.specs.Looking.{SoFar}
+use Rattle.sat_trail.proofs.Seeing.{SoFar}
 use Rattle.sat_trail.proofs.trail.Trail.inspect.Given as goal
 
 abbrev pub invariant-loop-lit : goal.invariant-loop-lit

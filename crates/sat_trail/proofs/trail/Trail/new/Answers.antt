@@ -1,7 +1,6 @@
 use Rattle.std.proofs.Common.{rules, arith, ◌≡◌, ◌≤◌, ◌<◌, ◌*◌, [], ℕ, List, length, replicate, get_or, sym, ◌∙◌, ap, subst, refl, ⊎_elim}
 use Rattle.std.proofs.lemmas.List.{get_or-replicate, get_or_past, length-replicate}
 use Rattle.std.proofs.lemmas.Bool.{cases_lt}
-use Rattle.cnf_store.specs.declared.value.Value.{Value}
 use Rattle.cnf_store.specs.declared.value.Value.TheVariants.{Free}
 use Rattle.sat_trail.specs.Trail.{IsPlaced, AreStarts, AreValues}
 use Rattle.sat_trail.proofs.Placing.{placed_none, zeros_all, starts_none}
