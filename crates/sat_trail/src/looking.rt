@@ -1,6 +1,6 @@
 //! What a trail says of a clause. Nothing here rests on which clauses are looked at.
 
-ghost use Rattle.std.specs.Prelude.{◌≡◌, ◌<◌, ◌*◌, ℕ, IfSome, IfNone, length, slice_index};
+ghost use Rattle.std.specs.Prelude.{◌≡◌, ◌<◌, ◌*◌, ℕ, IfSome, IfNone, length, slice_index, true};
 ghost use Rattle.std.specs.List.{All};
 ghost use Rattle.cnf_store.specs.Codes.{AreWithin};
 ghost use Rattle.sat_trail.specs.Implying.{IsImplied};
@@ -114,5 +114,88 @@ impl Trail {
             }
         }
         None
+    }
+}
+
+#[cfg(test)]
+mod tests {
+    use super::{Found, Implied, Look};
+    use crate::trail::Trail;
+    use cnf_store::{Arena, Clauses, Joined};
+    use std::test::Fail;
+
+    // Whether a clause is of the trail's variables.
+    fn is_within(trail: &Trail, clause: &[u32]) -> bool
+        ensures { result ≡ true → All (λ l. l < 2 * length trail.now.at.items) clause.now }
+    {
+        for lit in clause {
+            if *lit as usize / 2 >= trail.at.len() {
+                return false;
+            }
+        }
+        true
+    }
+
+    // Whether all clauses are.
+    fn are_within(trail: &Trail, db: &Clauses) -> bool
+        ensures { result ≡ true → AreWithin (length trail.now.at.items) db.now }
+    {
+        for i in 0..db.len() {
+            if !is_within(trail, db.get(i)) {
+                return false;
+            }
+        }
+        true
+    }
+
+    // Assigns literals by choice.
+    fn decide(trail: &mut Trail, lits: &[u32]) {
+        for lit in lits {
+            let var = *lit as usize / 2;
+            if var < trail.at.len() && trail.at[var] == 0 {
+                trail.decide(*lit);
+            }
+        }
+    }
+
+    // Whether this is what a clause is, and what it says of a literal.
+    fn looks(trail: &Trail, clause: &[u32], found: Found, other: u32, implied: Implied) -> bool {
+        is_within(trail, clause)
+            && trail.inspect(clause) == found
+            && trail.implies(clause, other) == implied
+    }
+
+    #[test]
+    fn a_clause_is_what_its_literals_are(rt: HostRuntime) -> Result<(), Fail> {
+        let mut trail = Trail::new(rt.alloc(), 4)?;
+        decide(&mut trail, &[0, 3]);
+        assert!(rt; looks(&trail, &[], Found::Wrong, 0, Implied::Wrong));
+        assert!(rt; looks(&trail, &[1, 2], Found::Wrong, 2, Implied::Wrong));
+        assert!(rt; looks(&trail, &[1, 4, 2], Found::Unit(4), 4, Implied::Unit));
+        assert!(rt; looks(&trail, &[1, 4, 2], Found::Unit(4), 1, Implied::Neither));
+        assert!(rt; looks(&trail, &[4, 1, 6], Found::Open, 4, Implied::Neither));
+        assert!(rt; looks(&trail, &[1, 0], Found::Holds, 0, Implied::Neither));
+        assert!(rt;
+            is_within(&trail, &[1, 2]) && trail.top(&[1, 2], 9) == 2 && trail.top(&[1, 2], 2) == 1
+        );
+        assert!(rt; trail.level_below(1) == 1 && trail.free() == Some(2));
+        Ok(())
+    }
+
+    #[test]
+    fn the_first_clause_that_says_something_is_told(rt: HostRuntime) -> Result<(), Fail> {
+        let mut trail = Trail::new(rt.alloc(), 4)?;
+        let mut shared = Arena::new(rt.alloc());
+        let mut own = Arena::new(rt.alloc());
+        shared.add(&[0, 6])?;
+        own.add(&[1, 4])?;
+        own.add(&[1, 2])?;
+        let db = Clauses::new(Joined::new(&shared, &own)?, Arena::new(rt.alloc()));
+        assert!(rt; are_within(&trail, &db) && trail.look_through(&db) == Look::Quiet);
+        decide(&mut trail, &[0]);
+        assert!(rt; are_within(&trail, &db) && trail.look_through(&db) == Look::Implied(4, 2));
+        decide(&mut trail, &[4, 3]);
+        assert!(rt; are_within(&trail, &db) && trail.look_through(&db) == Look::Conflict(3));
+        Ok(())
     }
 }

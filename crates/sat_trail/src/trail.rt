@@ -1,7 +1,7 @@
 //! The trail. Its literals stand in one row from the oldest on, with their reasons beside them; a table by variable says
 //! where each stands, and a table by literal what each is.
 
-ghost use Rattle.std.specs.Prelude.{MatchOption, IfOk, ◌≡◌, ◌≢◌, ◌≤◌, ◌<◌, ◌+◌, ◌-◌, ◌*◌, ◌/◌, ◌^◌, ◌++◌, ◌∷◌, [], ℕ, List, length, slice_index, take, vec_capacity, ◌⊎◌};
+ghost use Rattle.std.specs.Prelude.{MatchOption, IfOk, ◌≡◌, ◌≢◌, ◌≤◌, ◌<◌, ◌+◌, ◌-◌, ◌*◌, ◌/◌, ◌^◌, ◌++◌, ◌∷◌, [], ℕ, List, length, slice_index, take, vec_capacity, ◌⊎◌, true};
 ghost use Rattle.std.specs.List.{All, Any, Contains};
 ghost use Rattle.cnf_store.specs.Codes.{neg};
 ghost use Rattle.sat_trail.specs.Trail.{IsPlaced, AreStarts, AreValues, IsLevelOf};
@@ -263,5 +263,91 @@ fn unwind(lits: &mut Vec<u32>, at: &mut Vec<usize>, values: &mut Vec<Value>, cut
             values[lit as usize] = Value::Free;
             values[complement(lit) as usize] = Value::Free;
         }
+    }
+}
+
+#[cfg(test)]
+mod tests {
+    use super::{Trail, complement};
+    use cnf_store::Value;
+    use std::test::Fail;
+
+    fn is_free(trail: &Trail, lit: u32) -> bool
+        ensures { result ≡ true → (lit / 2 < length trail.now.at.items) × (slice_index trail.now.at.items (lit / 2) ≡ 0) }
+    {
+        let var = lit as usize / 2;
+        var < trail.at.len() && trail.at[var] == 0
+    }
+
+    // What is done to a trail.
+    enum Step {
+        Imply(u32, u64),
+        Decide(u32),
+        BackTo(usize),
+    }
+
+    // Takes a step, where it may be taken.
+    fn take(trail: &mut Trail, step: Step) -> bool {
+        match step {
+            Step::Imply(lit, reason) => {
+                if is_free(trail, lit) && reason > 0 {
+                    trail.imply(lit, reason);
+                    return true;
+                }
+            }
+            Step::Decide(lit) => {
+                if is_free(trail, lit) {
+                    trail.decide(lit);
+                    return true;
+                }
+            }
+            Step::BackTo(level) => {
+                if level < trail.starts.len() {
+                    trail.back_to(level);
+                    return true;
+                }
+            }
+        }
+        false
+    }
+
+    // Whether this is what a trail says of a literal and of its variable.
+    fn says(
+        trail: &Trail,
+        lit: u32,
+        value: Value,
+        level: Option<usize>,
+        reason: Option<u64>,
+    ) -> bool {
+        let var = lit as usize / 2;
+        var < trail.at.len()
+            && trail.value(lit) == value
+            && trail.level(var) == level
+            && trail.reason(var) == reason
+    }
+
+    #[test]
+    fn going_back_unassigns_what_has_a_greater_level(rt: HostRuntime) -> Result<(), Fail> {
+        let mut trail = Trail::new(rt.alloc(), 4)?;
+        assert!(rt; says(&trail, 0, Value::Free, None, None));
+        assert!(rt; take(&mut trail, Step::Imply(0, 1)) && take(&mut trail, Step::Decide(3)));
+        assert!(rt; take(&mut trail, Step::Imply(4, 2)) && take(&mut trail, Step::Decide(6)));
+        assert!(rt; says(&trail, 0, Value::True, Some(0), Some(1)));
+        assert!(rt; says(&trail, 2, Value::False, Some(1), None));
+        assert!(rt; says(&trail, 4, Value::True, Some(1), Some(2)));
+        assert!(rt; says(&trail, complement(6), Value::False, Some(2), None));
+        assert!(rt; take(&mut trail, Step::BackTo(1)));
+        assert!(rt; says(&trail, 4, Value::True, Some(1), Some(2)));
+        assert!(rt;
+            says(&trail, 6, Value::Free, None, None) && says(&trail, 7, Value::Free, None, None)
+        );
+        assert!(rt; take(&mut trail, Step::BackTo(0)));
+        assert!(rt;
+            says(&trail, 0, Value::True, Some(0), Some(1))
+                && says(&trail, 3, Value::Free, None, None)
+        );
+        trail.clear();
+        assert!(rt; says(&trail, 0, Value::Free, None, None) && trail.lits.len() == 0);
+        Ok(())
     }
 }
