@@ -10,6 +10,6 @@ mod laws;
 mod looking;
 mod trail;
 
-pub use laws::reasons_imply;
+pub use laws::{ranks_rise, reasons_imply};
 pub use looking::{Found, Implied, Look};
 pub use trail::{Trail, complement};

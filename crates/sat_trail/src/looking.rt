@@ -14,7 +14,7 @@ use cnf_store::{Clauses, Value};
 pub enum Found {
     /// Some literal is true.
     Holds,
-    /// Some literal is free, and it's not known to be the only one.
+    /// Some literal is free, and isn't known to be the only one.
     Open,
     /// This literal is free, and all others are false.
     Unit(u32),
@@ -37,7 +37,7 @@ pub enum Implied {
     Unit,
     /// All literals are false, this one too.
     Wrong,
-    /// Some other literal isn't false, or this one is true.
+    /// Some literal is true, or another one is free.
     Neither,
 }
 
