@@ -1,5 +1,6 @@
-pub mod Implying
-pub mod Levels
 pub mod Placing
+pub mod Ranks
 pub mod Reasons
-pub mod Storing
+pub mod Seeing
+pub mod Upkeep
+pub mod Valuing

@@ -1,148 +1,191 @@
--- Each literal has its place, and each place its literal.
-use Rattle.std.proofs.Common.{◌≡◌, ◌≢◌, ◌≤◌, ◌<◌, ◌+◌, ◌-◌, ◌==◌, ℕ, zero, suc, ℤ, pos, List, [], ◌∷◌, ◌++◌, set, take, length, get_or, replicate, arith, sym, ◌∙◌, ap, subst, refl, ⊎_elim, true, false, length-set, get_or-set_same, get_or-set_other, unsigned_abs}
+-- Each literal has its place, each place its literal, and each decision opens a level.
+use Rattle.std.proofs.Common.{◌≡◌, ◌≢◌, ◌≤◌, ◌<◌, ◌+◌, ◌-◌, ◌*◌, ◌/◌, ◌==◌, ℕ, zero, suc, List, [], ◌∷◌, ◌++◌, set, take, length, get_or, arith, sym, ◌∙◌, ap, subst, refl, ◌⊎◌, inl, inr, ⊎_elim, true, false, length-set, get_or-set_same, get_or-set_other, get_or-take}
 use Rattle.std.proofs.lemmas.Bool.{cases_eq, cases_lt, eq-eqb, ne_eqb}
-use Rattle.std.proofs.lemmas.List.{length_push, get_or_push, get_or_append_left, get_or_default, get_or-replicate, get_or_past, length-replicate, take_more}
-use Rattle.std.specs.List.{All}
-use Rattle.cnf_store.specs.Clauses.{IsLiteral}
-use Rattle.sat_trail.specs.Assigned.{literal_at, decisions, IsAt}
-use Rattle.sat_trail.specs.Stored.{ArePlaces}
+use Rattle.std.proofs.lemmas.List.{length_push, get_or_push, get_or_append_left, length-take-le}
+use Rattle.std.specs.Prelude.{if◌then◌else◌}
+use Rattle.sat_trail.specs.Trail.{IsPlaced, AreStarts, StandsBelow, zeros}
+use Rattle.cnf_store.specs.Codes.{neg}
+use Rattle.cnf_store.proofs.Lits.{neg_var}
 
--- a variable without a place is that of no literal
-pub unplaced : (vars : ℕ) (literals : List ℤ) (places : List ℕ) (v : ℕ) → ArePlaces vars literals places → get_or places v 0 ≡ 0 → All (λ l. unsigned_abs l ≢ v) literals
-unplaced vars literals places v is none = λ k d lt e.
-    let same : get_or literals k d ≡ literal_at literals k = get_or_default literals k d (pos 0) lt in
-    let p = is.placed k lt in
-    let q : get_or places (unsigned_abs (literal_at literals k)) 0 ≡ get_or places v 0 = ap (λ (x : ℕ). get_or places x 0) (ap unsigned_abs (sym same) ∙ e) in
+-- two places with one variable are one
+pub same_place : (vars : ℕ) (lits at : List ℕ) (p q : ℕ) → IsPlaced vars lits at → p < length lits → q < length lits → get_or lits p 0 / 2 ≡ get_or lits q 0 / 2 → p ≡ q
+same_place vars lits at p q is hp hq e =
+    let a = (is.placed p hp).1 in let b = (is.placed q hq).1 in
+    let c : get_or at (get_or lits p 0 / 2) 0 ≡ get_or at (get_or lits q 0 / 2) 0 = ap (λ (v : ℕ). get_or at v 0) e in
     omega arith
 
--- and the other way round
-pub has_no_place : (vars : ℕ) (literals : List ℤ) (places : List ℕ) (v : ℕ) → ArePlaces vars literals places → All (λ l. unsigned_abs l ≢ v) literals → get_or places v 0 ≡ 0
-has_no_place vars literals places v is none = ⊎_elim (λ (e : get_or places v 0 ≡ 0). e)
-    (λ (ne : get_or places v 0 ≢ 0). let f = is.found v (omega arith) in absurd (none (get_or places v 0 - 1) (pos 0) (omega arith) (is.own v (omega arith))))
-    (cases_eq (get_or places v 0) 0)
+-- a literal on the trail is where the table says
+pub stands_placed : (vars : ℕ) (lits at : List ℕ) (limit l : ℕ) → IsPlaced vars lits at → limit ≤ length lits → StandsBelow lits limit l
+    → (0 < get_or at (l / 2) 0) × (get_or at (l / 2) 0 - 1 < limit) × (get_or lits (get_or at (l / 2) 0 - 1) 0 ≡ l)
+stands_placed vars lits at limit l is le (q, lt, e) =
+    let a = (is.placed q (omega arith)).1 in
+    let v : get_or lits q 0 / 2 ≡ l / 2 = ap (λ (x : ℕ). x / 2) e in
+    let b : get_or at (l / 2) 0 ≡ q + 1 = subst (λ (x : ℕ). get_or at x 0 ≡ q + 1) v a in
+    let p : get_or at (l / 2) 0 - 1 ≡ q = omega arith in
+    (omega arith, omega arith, ap (λ (x : ℕ). get_or lits x 0) p ∙ e)
 
-pub placed_at : (vars : ℕ) (literals : List ℤ) (reasons places : List ℕ) (v p : ℕ) → ArePlaces vars literals places → get_or places v 0 ≡ p + 1 → IsAt (record { vars = vars; literals = literals; reasons = reasons }) v p
-placed_at vars literals reasons places v p is at =
-    let f = is.found v (omega arith) in
-    let here : get_or places v 0 - 1 ≡ p = omega arith in
-    (omega arith, ap (λ (x : ℕ). unsigned_abs (literal_at literals x)) (sym here) ∙ is.own v (omega arith))
+-- and so is the complement of one that is false
+pub place_of : (vars : ℕ) (lits at : List ℕ) (limit l : ℕ) → IsPlaced vars lits at → limit ≤ length lits → StandsBelow lits limit (neg l)
+    → (0 < get_or at (l / 2) 0) × (get_or at (l / 2) 0 - 1 < limit) × (get_or lits (get_or at (l / 2) 0 - 1) 0 ≡ neg l)
+place_of vars lits at limit l is le stands =
+    subst (λ (v : ℕ). (0 < get_or at v 0) × (get_or at v 0 - 1 < limit) × (get_or lits (get_or at v 0 - 1) 0 ≡ neg l)) (neg_var l) (stands_placed vars lits at limit (neg l) is le stands)
 
-zeros_set : (xs : List ℕ) (v x : ℕ) → v < length xs → get_or xs v 0 ≡ 0 → 0 < x → decisions (set xs v x) + 1 ≡ decisions xs
-zeros_set [] v x lt e some = absurd (omega arith)
-zeros_set (y ∷ ys) zero x lt e some = let a : (y == 0) ≡ true = eq-eqb y 0 e in let b : (x == 0) ≡ false = ne_eqb x 0 (λ z. omega arith) in rw (a, b) (omega arith)
-zeros_set (y ∷ ys) (suc v) x lt e some = let h = zeros_set ys v x (omega arith) e some in omega arith
+-- literals on the trail are within the variables, and their complements
+pub stands_small : (vars : ℕ) (lits at : List ℕ) (limit l : ℕ) → IsPlaced vars lits at → limit ≤ length lits → StandsBelow lits limit (neg l) → l < 2 * vars
+stands_small vars lits at limit l is le (q, lt, e) = let a = (is.placed q (omega arith)).0 in omega arith
 
-zeros_clear : (xs : List ℕ) (v : ℕ) → v < length xs → 0 < get_or xs v 0 → decisions (set xs v 0) ≡ decisions xs + 1
-zeros_clear [] v lt some = absurd (omega arith)
-zeros_clear (y ∷ ys) zero lt some = let a : (y == 0) ≡ false = ne_eqb y 0 (λ z. omega arith) in rw a (omega arith)
-zeros_clear (y ∷ ys) (suc v) lt some = let h = zeros_clear ys v (omega arith) some in omega arith
+-- a place given to a variable that has none
+zeros_set : (xs : List ℕ) (v x : ℕ) → v < length xs → get_or xs v 0 ≡ 0 → 0 < x → zeros (set xs v x) + 1 ≡ zeros xs
+zeros_set [] v x lt e pos = absurd (omega arith)
+zeros_set (y ∷ ys) zero x lt e pos = let a : (y == 0) ≡ true = eq-eqb y 0 e in let b : (x == 0) ≡ false = ne_eqb x 0 (λ z. omega arith) in rw (a, b) (omega arith)
+zeros_set (y ∷ ys) (suc v) x lt e pos = let h = zeros_set ys v x (omega arith) e pos in omega arith
 
-zeros_some : (xs : List ℕ) (v : ℕ) → v < length xs → get_or xs v 0 ≡ 0 → 0 < decisions xs
-zeros_some [] v lt e = absurd (omega arith)
-zeros_some (y ∷ ys) zero lt e = let a : (y == 0) ≡ true = eq-eqb y 0 e in rw a (omega arith)
-zeros_some (y ∷ ys) (suc v) lt e = let h = zeros_some ys v (omega arith) e in omega arith
+-- a place taken from a variable that has one
+zeros_clear : (xs : List ℕ) (v : ℕ) → v < length xs → 0 < get_or xs v 0 → zeros (set xs v 0) ≡ zeros xs + 1
+zeros_clear [] v lt pos = absurd (omega arith)
+zeros_clear (y ∷ ys) zero lt pos = let a : (y == 0) ≡ false = ne_eqb y 0 (λ z. omega arith) in rw a (omega arith)
+zeros_clear (y ∷ ys) (suc v) lt pos = let h = zeros_clear ys v (omega arith) pos in omega arith
 
-zeros_all : (n : ℕ) → decisions (replicate {A = ℕ} n 0) ≡ n
-zeros_all zero = refl
-zeros_all (suc n) = let h = zeros_all n in omega arith
+-- so many zeros at most as entries
+zeros_le : (xs : List ℕ) → zeros xs ≤ length xs
+zeros_le [] = omega arith
+zeros_le (x ∷ xs) = let h = zeros_le xs in elim (x == 0) as (λ b. (if b then 1 else 0) + zeros xs ≤ suc (length xs)) [ true ↦ omega arith | false ↦ omega arith ]
 
--- where a variable has no place there is room for its literal
-pub has_room : (vars : ℕ) (literals : List ℤ) (places : List ℕ) (v : ℕ) → ArePlaces vars literals places → v ≤ vars → get_or places v 0 ≡ 0 → length literals ≤ vars
-has_room vars literals places v is le e = let z = zeros_some places v (omega (arith, is.size)) e in omega (arith, is.count)
-
-zero_at : (n v : ℕ) → ◌≡◌ {A = ℕ} (get_or (replicate n 0) v 0) 0
-zero_at n v = ⊎_elim (λ (a : v < n). get_or-replicate n v 0 0 a) (λ (b : n ≤ v). get_or_past (replicate n 0) v 0 (omega (arith, length-replicate {A = ℕ} n 0))) (cases_lt v n)
-
-pub placed_none : (vars : ℕ) → ArePlaces vars [] (replicate (vars + 1) 0)
-placed_none vars = record {
-  size = length-replicate {A = ℕ} (vars + 1) 0;
-  within = λ i h. absurd (omega arith);
-  placed = λ i h. absurd (omega arith);
-  found = λ v h. absurd (let z = zero_at (vars + 1) v in omega arith);
-  own = λ v h. absurd (let z = zero_at (vars + 1) v in omega arith);
-  count = let z = zeros_all (vars + 1) in omega arith;
-}
-
-pub placed_push : (vars : ℕ) (lits : List ℤ) (at : List ℕ) (l : ℤ) → ArePlaces vars lits at → IsLiteral vars l → get_or at (unsigned_abs l) 0 ≡ 0 → ArePlaces vars (lits ++ l ∷ []) (set at (unsigned_abs l) (length lits + 1))
-placed_push vars lits at l is lit free =
+-- one more literal, of a variable without a place
+pub placed_push : (vars : ℕ) (lits at : List ℕ) (l : ℕ) → IsPlaced vars lits at → l / 2 < vars → get_or at (l / 2) 0 ≡ 0 → IsPlaced vars (lits ++ l ∷ []) (set at (l / 2) (length lits + 1))
+placed_push vars lits at l is lt free =
     let n : ℕ = length lits in
-    let v : ℕ = unsigned_abs l in
-    let room : v < length at = omega (arith, is.size, lit.1) in
+    let room : l / 2 < length at = omega (arith, is.size) in
     let len = length_push lits l in
-    let last : literal_at (lits ++ l ∷ []) n ≡ l = get_or_push lits l (pos 0) n refl in
-    let old : (i : ℕ) → i < n → literal_at (lits ++ l ∷ []) i ≡ literal_at lits i = λ i h. get_or_append_left lits (l ∷ []) (pos 0) i h in
     record {
-      size = length-set at v (n + 1) ∙ is.size;
-      within = λ i h. ⊎_elim
-          (λ (e : i ≡ n). subst (IsLiteral vars) (sym (ap (literal_at (lits ++ l ∷ [])) e ∙ last)) lit)
-          (λ (ne : i ≢ n). subst (IsLiteral vars) (sym (old i (omega arith))) (is.within i (omega arith)))
-          (cases_eq i n);
+      size = length-set at (l / 2) (n + 1) ∙ is.size;
       placed = λ i h. ⊎_elim
-          (λ (e : i ≡ n). ap (λ (x : ℤ). get_or (set at v (n + 1)) (unsigned_abs x) 0) (ap (literal_at (lits ++ l ∷ [])) e ∙ last) ∙ get_or-set_same at v (n + 1) 0 room ∙ ap (λ (x : ℕ). x + 1) (sym e))
-          (λ (ne : i ≢ n). let p = is.placed i (omega arith) in
-          let apart : unsigned_abs (literal_at lits i) ≢ v = λ e. let z : get_or at (unsigned_abs (literal_at lits i)) 0 ≡ get_or at v 0 = ap (λ (x : ℕ). get_or at x 0) e in omega arith in
-          ap (λ (x : ℤ). get_or (set at v (n + 1)) (unsigned_abs x) 0) (old i (omega arith)) ∙ get_or-set_other at v (unsigned_abs (literal_at lits i)) (n + 1) 0 apart ∙ p)
+          (λ (e : i ≡ n). let g : get_or (lits ++ l ∷ []) i 0 ≡ l = get_or_push lits l 0 i (sym e) in
+          subst (λ (x : ℕ). (x / 2 < vars) × (get_or (set at (l / 2) (n + 1)) (x / 2) 0 ≡ i + 1)) (sym g) (lt, get_or-set_same at (l / 2) (n + 1) 0 room ∙ ap (λ (x : ℕ). x + 1) (sym e)))
+          (λ (ne : i ≢ n). let less : i < n = omega arith in
+          let g : get_or (lits ++ l ∷ []) i 0 ≡ get_or lits i 0 = get_or_append_left lits (l ∷ []) 0 i less in
+          let p = is.placed i less in
+          let apart : get_or lits i 0 / 2 ≢ l / 2 = λ e. let z : get_or at (get_or lits i 0 / 2) 0 ≡ get_or at (l / 2) 0 = ap (λ (x : ℕ). get_or at x 0) e in omega (arith, p.1) in
+          subst (λ (x : ℕ). (x / 2 < vars) × (get_or (set at (l / 2) (n + 1)) (x / 2) 0 ≡ i + 1)) (sym g) (p.0, get_or-set_other at (l / 2) (get_or lits i 0 / 2) (n + 1) 0 apart ∙ p.1))
           (cases_eq i n);
-      found = λ w h. ⊎_elim
-          (λ (e : w ≡ v). let g : get_or (set at v (n + 1)) w 0 ≡ n + 1 = ap (λ (x : ℕ). get_or (set at v (n + 1)) x 0) e ∙ get_or-set_same at v (n + 1) 0 room in omega arith)
-          (λ (ne : w ≢ v). let g = get_or-set_other at v w (n + 1) 0 ne in let f = is.found w (omega arith) in omega arith)
-          (cases_eq w v);
-      own = λ w h. ⊎_elim
-          (λ (e : w ≡ v). let g : get_or (set at v (n + 1)) w 0 - 1 ≡ n = ap (λ (x : ℕ). get_or (set at v (n + 1)) x 0 - 1) e ∙ ap (λ (x : ℕ). x - 1) (get_or-set_same at v (n + 1) 0 room) ∙ omega arith in
-          ap (λ (x : ℕ). unsigned_abs (literal_at (lits ++ l ∷ []) x)) g ∙ ap unsigned_abs last ∙ sym e)
-          (λ (ne : w ≢ v). let g = get_or-set_other at v w (n + 1) 0 ne in
-          let f = is.found w (omega arith) in
-          ap (λ (x : ℕ). unsigned_abs (literal_at (lits ++ l ∷ []) (x - 1))) g ∙ ap unsigned_abs (old (get_or at w 0 - 1) (omega arith)) ∙ is.own w (omega arith))
-          (cases_eq w v);
-      count = let z = zeros_set at v (n + 1) room free (omega arith) in omega (arith, is.count);
+      found = λ v h. ⊎_elim
+          (λ (e : v ≡ l / 2). let g : get_or (set at (l / 2) (n + 1)) v 0 ≡ n + 1 = ap (λ (x : ℕ). get_or (set at (l / 2) (n + 1)) x 0) e ∙ get_or-set_same at (l / 2) (n + 1) 0 room in
+          let m : get_or (lits ++ l ∷ []) (get_or (set at (l / 2) (n + 1)) v 0 - 1) 0 ≡ l = get_or_push lits l 0 (get_or (set at (l / 2) (n + 1)) v 0 - 1) (omega arith) in
+          (omega arith, ap (λ (x : ℕ). x / 2) m ∙ sym e))
+          (λ (ne : v ≢ l / 2). let g = get_or-set_other at (l / 2) v (n + 1) 0 ne in
+          let f = is.found v (omega arith) in
+          let m : get_or (lits ++ l ∷ []) (get_or at v 0 - 1) 0 ≡ get_or lits (get_or at v 0 - 1) 0 = get_or_append_left lits (l ∷ []) 0 (get_or at v 0 - 1) (omega arith) in
+          subst (λ (x : ℕ). (x ≤ length (lits ++ l ∷ [])) × (get_or (lits ++ l ∷ []) (x - 1) 0 / 2 ≡ v)) (sym g) (omega arith, ap (λ (x : ℕ). x / 2) m ∙ f.1))
+          (cases_eq v (l / 2));
+      count = let z = zeros_set at (l / 2) (n + 1) room free (omega arith) in omega (arith, is.count);
     }
 
-pub placed_pop : (vars : ℕ) (lits : List ℤ) (at : List ℕ) (l : ℤ) → ArePlaces vars (lits ++ l ∷ []) at → ArePlaces vars lits (set at (unsigned_abs l) 0)
+-- the newest literal taken back
+pub placed_pop : (vars : ℕ) (lits at : List ℕ) (l : ℕ) → IsPlaced vars (lits ++ l ∷ []) at → IsPlaced vars lits (set at (l / 2) 0)
 placed_pop vars lits at l is =
     let n : ℕ = length lits in
-    let v : ℕ = unsigned_abs l in
     let len = length_push lits l in
-    let last : literal_at (lits ++ l ∷ []) n ≡ l = get_or_push lits l (pos 0) n refl in
-    let old : (i : ℕ) → i < n → literal_at (lits ++ l ∷ []) i ≡ literal_at lits i = λ i h. get_or_append_left lits (l ∷ []) (pos 0) i h in
-    let here : get_or at v 0 ≡ n + 1 = ap (λ (x : ℤ). get_or at (unsigned_abs x) 0) (sym last) ∙ is.placed n (omega arith) in
-    let lit : IsLiteral vars l = subst (IsLiteral vars) last (is.within n (omega arith)) in
-    let room : v < length at = omega (arith, is.size, lit.1) in
+    let g : get_or (lits ++ l ∷ []) n 0 ≡ l = get_or_push lits l 0 n refl in
+    let here = subst (λ (x : ℕ). (x / 2 < vars) × (get_or at (x / 2) 0 ≡ n + 1)) g (is.placed n (omega arith)) in
+    let room : l / 2 < length at = omega (arith, is.size, here.0) in
     record {
-      size = length-set at v 0 ∙ is.size;
-      within = λ i h. subst (IsLiteral vars) (old i h) (is.within i (omega arith));
+      size = length-set at (l / 2) 0 ∙ is.size;
       placed = λ i h.
-          let p : get_or at (unsigned_abs (literal_at lits i)) 0 ≡ i + 1 = ap (λ (x : ℤ). get_or at (unsigned_abs x) 0) (sym (old i h)) ∙ is.placed i (omega arith) in
-          let apart : unsigned_abs (literal_at lits i) ≢ v = λ e. let z : get_or at (unsigned_abs (literal_at lits i)) 0 ≡ get_or at v 0 = ap (λ (x : ℕ). get_or at x 0) e in omega arith in
-          get_or-set_other at v (unsigned_abs (literal_at lits i)) 0 0 apart ∙ p;
-      found = λ w h. (below w h).0;
-      own = λ w h. (below w h).1;
-      count = let z = zeros_clear at v room (omega arith) in omega (arith, is.count);
+          let e : get_or (lits ++ l ∷ []) i 0 ≡ get_or lits i 0 = get_or_append_left lits (l ∷ []) 0 i h in
+          let p = subst (λ (x : ℕ). (x / 2 < vars) × (get_or at (x / 2) 0 ≡ i + 1)) e (is.placed i (omega arith)) in
+          let apart : get_or lits i 0 / 2 ≢ l / 2 = λ q. let z : get_or at (get_or lits i 0 / 2) 0 ≡ get_or at (l / 2) 0 = ap (λ (x : ℕ). get_or at x 0) q in omega (arith, p.1, here.1) in
+          (p.0, get_or-set_other at (l / 2) (get_or lits i 0 / 2) 0 0 apart ∙ p.1);
+      found = λ v h. ⊎_elim
+          (λ (e : v ≡ l / 2). absurd (let z : get_or (set at (l / 2) 0) v 0 ≡ 0 = ap (λ (x : ℕ). get_or (set at (l / 2) 0) x 0) e ∙ get_or-set_same at (l / 2) 0 0 room in omega arith))
+          (λ (ne : v ≢ l / 2). let o = get_or-set_other at (l / 2) v 0 0 ne in
+          let f = is.found v (omega arith) in
+          let less : get_or at v 0 - 1 < n = ⊎_elim (λ (a : get_or at v 0 - 1 < n). a) (λ (b : n ≤ get_or at v 0 - 1). absurd (
+          let z : get_or at v 0 - 1 ≡ n = omega (arith, f.0) in
+          ne (sym f.1 ∙ ap (λ (x : ℕ). get_or (lits ++ l ∷ []) x 0 / 2) z ∙ ap (λ (x : ℕ). x / 2) g))) (cases_lt (get_or at v 0 - 1) n) in
+          let m : get_or (lits ++ l ∷ []) (get_or at v 0 - 1) 0 ≡ get_or lits (get_or at v 0 - 1) 0 = get_or_append_left lits (l ∷ []) 0 (get_or at v 0 - 1) less in
+          subst (λ (x : ℕ). (x ≤ n) × (get_or lits (x - 1) 0 / 2 ≡ v)) (sym o) (omega arith, ap (λ (x : ℕ). x / 2) (sym m) ∙ f.1))
+          (cases_eq v (l / 2));
+      count = let z = zeros_clear at (l / 2) room (omega (arith, here.1)) in omega (arith, is.count);
     }
-  where
-    below : (w : ℕ) → 0 < get_or (set at (unsigned_abs l) 0) w 0 → (get_or (set at (unsigned_abs l) 0) w 0 ≤ length lits) × (unsigned_abs (literal_at lits (get_or (set at (unsigned_abs l) 0) w 0 - 1)) ≡ w)
-    below w h =
-        let n : ℕ = length lits in
-        let v : ℕ = unsigned_abs l in
-        let len = length_push lits l in
-        let last : literal_at (lits ++ l ∷ []) n ≡ l = get_or_push lits l (pos 0) n refl in
-        let lit : IsLiteral vars l = subst (IsLiteral vars) last (is.within n (omega arith)) in
-        let room : v < length at = omega (arith, is.size, lit.1) in
-        ⊎_elim
-        (λ (e : w ≡ v). absurd (let z : get_or (set at v 0) w 0 ≡ 0 = ap (λ (x : ℕ). get_or (set at v 0) x 0) e ∙ get_or-set_same at v 0 0 room in omega arith))
-        (λ (ne : w ≢ v). let o = get_or-set_other at v w 0 0 ne in
-        let f = is.found w (omega arith) in
-        let own = is.own w (omega arith) in
-        let less : get_or at w 0 - 1 < n = ⊎_elim (λ (a : get_or at w 0 - 1 < n). a) (λ (b : n ≤ get_or at w 0 - 1). absurd (
-        let z : get_or at w 0 - 1 ≡ n = omega arith in
-        ne (sym own ∙ ap (λ (x : ℕ). unsigned_abs (literal_at (lits ++ l ∷ []) x)) z ∙ ap unsigned_abs last))) (cases_lt (get_or at w 0 - 1) n) in
-        let m : literal_at (lits ++ l ∷ []) (get_or at w 0 - 1) ≡ literal_at lits (get_or at w 0 - 1) = get_or_append_left lits (l ∷ []) (pos 0) (get_or at w 0 - 1) less in
-        (omega arith, ap (λ (x : ℕ). unsigned_abs (literal_at lits (x - 1))) o ∙ ap unsigned_abs (sym m) ∙ own))
-        (cases_eq w v)
 
--- the newest literal goes, and its place with it
-pub placed_back : (vars : ℕ) (literals : List ℤ) (places : List ℕ) (n : ℕ) → n < length literals → ArePlaces vars (take (n + 1) literals) places → ArePlaces vars (take n literals) (set places (unsigned_abs (literal_at literals n)) 0)
-placed_back vars literals places n lt is =
-    placed_pop vars (take n literals) places (literal_at literals n) (subst (λ (xs : List ℤ). ArePlaces vars xs places) (take_more literals n (pos 0) lt) is)
+-- no literal, and no place
+pub placed_none : (vars : ℕ) (at : List ℕ) → length at ≡ vars → ((v : ℕ) → get_or at v 0 ≡ 0) → zeros at ≡ vars → IsPlaced vars [] at
+placed_none vars at e none z = record { size = e; placed = λ i h. absurd (omega arith); found = λ v h. absurd (let n = none v in omega arith); count = omega arith }
 
-pub places_few : (vars : ℕ) (literals : List ℤ) (places : List ℕ) → ArePlaces vars literals places → length literals ≤ vars + 1
-places_few vars literals places is = omega (arith, is.count)
+-- a table of zeros has as many as entries
+pub zeros_all : (n : ℕ) (xs : List ℕ) → length xs ≡ n → ((v : ℕ) → get_or xs v 0 ≡ 0) → zeros xs ≡ n
+zeros_all zero [] e all = refl
+zeros_all zero (x ∷ xs) e all = absurd (omega arith)
+zeros_all (suc n) [] e all = absurd (omega arith)
+zeros_all (suc n) (x ∷ xs) e all = let h = zeros_all n xs (omega arith) (λ v. all (suc v)) in let a : (x == 0) ≡ true = eq-eqb x 0 (all 0) in rw a (omega arith)
+
+-- an implied literal opens no level
+pub starts_imply : (reasons starts : List ℕ) (r : ℕ) → AreStarts reasons starts → 0 < r → AreStarts (reasons ++ r ∷ []) starts
+starts_imply reasons starts r s pos =
+    let len = length_push reasons r in record {
+      each = λ j h. let e = s.each j h in (omega (arith, e.0), get_or_append_left reasons (r ∷ []) 0 (get_or starts j 0) e.0 ∙ e.1);
+      rising = s.rising;
+      between = λ j p le low high h. ⊎_elim (λ (a : p < length reasons). let e = get_or_append_left reasons (r ∷ []) 0 p a in let k = s.between j p le low high a in omega arith)
+          (λ (b : length reasons ≤ p). let e : get_or (reasons ++ r ∷ []) p 0 ≡ r = get_or_push reasons r 0 p (omega arith) in omega arith) (cases_lt p (length reasons));
+    }
+
+-- one of two numbers is at most the other
+cases_le : (m n : ℕ) → (m ≤ n) ⊎ (n < m)
+cases_le m n = ⊎_elim (λ (a : n < m). inr a) (λ (b : m ≤ n). inl b) (cases_lt n m)
+
+-- a decision opens a level at its place
+pub starts_decide : (reasons starts : List ℕ) (n : ℕ) → n ≡ length reasons → AreStarts reasons starts → AreStarts (reasons ++ 0 ∷ []) (starts ++ n ∷ [])
+starts_decide reasons starts n is s =
+    let len = length_push reasons 0 in
+    let len2 = length_push starts n in
+    record {
+      each = λ j h. ⊎_elim
+          (λ (a : j < length starts). let e = s.each j a in let g = get_or_append_left starts (n ∷ []) 0 j a in
+          subst (λ (x : ℕ). (x < length (reasons ++ 0 ∷ [])) × (get_or (reasons ++ 0 ∷ []) x 0 ≡ 0)) (sym g) (omega (arith, e.0), get_or_append_left reasons (0 ∷ []) 0 (get_or starts j 0) e.0 ∙ e.1))
+          (λ (b : length starts ≤ j). let g = get_or_push starts n 0 j (omega arith) in
+          subst (λ (x : ℕ). (x < length (reasons ++ 0 ∷ [])) × (get_or (reasons ++ 0 ∷ []) x 0 ≡ 0)) (sym g) (omega arith, get_or_push reasons 0 0 n (sym is)))
+          (cases_lt j (length starts));
+      rising = λ j k lt h. let gj = get_or_append_left starts (n ∷ []) 0 j (omega arith) in
+          ⊎_elim (λ (a : k < length starts). let gk = get_or_append_left starts (n ∷ []) 0 k a in let r = s.rising j k lt a in omega arith)
+          (λ (b : length starts ≤ k). let gk = get_or_push starts n 0 k (omega arith) in let e = s.each j (omega arith) in omega (arith, e.0))
+          (cases_lt k (length starts));
+      between = λ j p le low high h. ⊎_elim
+          (λ (a : j ≤ length starts).
+          let up : p < n = ⊎_elim (λ (l : j < length starts). let e = s.each j l in let g = get_or_append_left starts (n ∷ []) 0 j l in let q = high (omega arith) in omega (arith, e.0)) (λ (l : length starts ≤ j). let g = get_or_push starts n 0 j (omega arith) in let q = high (omega arith) in omega arith) (cases_lt j (length starts)) in
+          let e = get_or_append_left reasons (0 ∷ []) 0 p (omega arith) in
+          let k = s.between j p a (λ pos. let g = get_or_append_left starts (n ∷ []) 0 (j - 1) (omega arith) in let q = low pos in omega arith) (λ l. let g = get_or_append_left starts (n ∷ []) 0 j l in let q = high (omega arith) in omega arith) (omega arith) in
+          omega arith)
+          (λ (b : length starts < j). absurd (let g = get_or_push starts n 0 (j - 1) (omega arith) in let q = low (omega arith) in omega arith))
+          (cases_le j (length starts));
+    }
+
+-- levels and places from the start of one on taken back
+pub starts_cut : (reasons starts : List ℕ) (level cut : ℕ) → AreStarts reasons starts → level < length starts → get_or starts level 0 ≡ cut → AreStarts (take cut reasons) (take level starts)
+starts_cut reasons starts level cut s lt is =
+    let c = s.each level lt in
+    let len : length (take level starts) ≡ level = length-take-le level starts (omega arith) in
+    let len2 : length (take cut reasons) ≡ cut = length-take-le cut reasons (omega (arith, c.0)) in
+    record {
+      each = λ j h. let g = get_or-take level starts j 0 (omega arith) in let e = s.each j (omega arith) in let r = s.rising j level (omega arith) lt in
+          subst (λ (x : ℕ). (x < length (take cut reasons)) × (get_or (take cut reasons) x 0 ≡ 0)) (sym g) (omega arith, get_or-take cut reasons (get_or starts j 0) 0 (omega arith) ∙ e.1);
+      rising = λ j k l h. let gj = get_or-take level starts j 0 (omega arith) in let gk = get_or-take level starts k 0 (omega arith) in let r = s.rising j k l (omega arith) in omega arith;
+      between = λ j p le low high h.
+          let e = get_or-take cut reasons p 0 (omega arith) in
+          let k = s.between j p (omega arith) (λ pos. let g = get_or-take level starts (j - 1) 0 (omega arith) in let q = low pos in omega arith)
+          (λ l. ⊎_elim (λ (a : j < level). let g = get_or-take level starts j 0 a in let q = high (omega arith) in omega arith) (λ (b : level ≤ j). let m : j ≡ level = omega arith in let g = ap (λ (x : ℕ). get_or starts x 0) m in omega arith) (cases_lt j level)) (omega (arith, c.0)) in
+          omega arith;
+    }
+
+-- no place, and no level
+pub starts_none : AreStarts [] []
+starts_none = record { each = λ j h. absurd (omega arith); rising = λ j k l h. absurd (omega arith); between = λ j p le low high h. absurd (omega arith) }
+
+-- each level below has a place of its own
+start_ge : (reasons starts : List ℕ) → AreStarts reasons starts → (j : ℕ) → j < length starts → j ≤ get_or starts j 0
+start_ge reasons starts s zero lt = omega arith
+start_ge reasons starts s (suc j) lt = let h = start_ge reasons starts s j (omega arith) in let r = s.rising j (suc j) (omega arith) lt in omega arith
+
+-- no more decisions than places
+pub starts_le : (reasons starts : List ℕ) → AreStarts reasons starts → length starts ≤ length reasons
+starts_le reasons starts s = ⊎_elim (λ (z : length starts ≡ 0). omega arith)
+    (λ (n : length starts ≢ 0). let g = start_ge reasons starts s (length starts - 1) (omega arith) in let e = s.each (length starts - 1) (omega arith) in omega (arith, e.0)) (cases_eq (length starts) 0)

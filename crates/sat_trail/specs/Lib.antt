@@ -1,3 +1,5 @@
-pub mod Assigned
+pub mod Implying
 pub mod Laws
-pub mod Stored
+pub mod Looking
+pub mod Rank
+pub mod Trail

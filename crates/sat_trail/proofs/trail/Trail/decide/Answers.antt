@@ -1,29 +1,32 @@
-use Rattle.std.proofs.Common.{rules, arith, w32, ◌≡◌, ◌+◌, ◌-◌, ◌++◌, ◌∷◌, [], ℕ, ℤ, List, length, sym, ◌∙◌, ap, subst}
-use Rattle.std.proofs.lemmas.Int.{to_z-of_z}
-use Rattle.sat_trail.specs.Assigned.{decisions, AreReasons}
-use Rattle.sat_trail.proofs.Levels.{decisions_le, decisions_decided}
-use Rattle.sat_trail.proofs.Placing.{places_few}
-use Rattle.sat_trail.proofs.Reasons.{reasons_push}
+use Rattle.std.proofs.Common.{rules, arith, ◌≡◌, ◌+◌, ◌/◌, ◌++◌, ◌∷◌, [], ℕ, List, length, sym, ◌∙◌, ap, subst}
+use Rattle.std.proofs.lemmas.List.{length_push}
+use Rattle.sat_trail.specs.Trail.{IsPlaced, AreStarts}
+use Rattle.sat_trail.proofs.Placing.{starts_decide, starts_le}
+use Rattle.sat_trail.proofs.Upkeep.{has_room}
 use Rattle.sat_trail.proofs.trail.Trail.decide.Goals as goal
 
-pub overflow_add-level : goal.overflow_add-level
-overflow_add-level c =
-    let t = c.self.inside in
-    let level : c.present-level.result ≡ decisions t.reasons.items = search rules in
-    omega (arith, decisions_le t.reasons.items, places_few (length t.places.items - 1) t.literals.items t.places.items c.self.invariant.placed, c.self.invariant.same, c.self.invariant.few)
+pub push_reserved-requires-2 : goal.push_reserved-requires-2
+push_reserved-requires-2 c =
+    let t = c.args.self.now in
+    let r = has_room (length t.at.items) t.lits.items t.at.items (c.args.lit / 2) t.placed c.requires.within c.requires.free in
+    let m = starts_le t.reasons.items t.starts.items t.levels in
+    omega (arith, t.starts_room, t.same, t.starts.ok)
 
-pub push-requires-clause-level : goal.push-requires-clause-level
-push-requires-clause-level c =
-    let t = c.self.inside in
-    let level : c.present-level.result ≡ decisions t.reasons.items = search rules in
-    ap (λ (n : ℕ). n + 1) level ∙ sym (decisions_decided t.reasons.items)
-
-pub returns-clause-reasons : goal.returns-clause-reasons
-returns-clause-reasons c = λ clauses all.
-    let t = c.self.inside in
-    let n : ℕ = length t.places.items - 1 in
-    let lits : List ℤ = t.literals.items ++ c.args.lit ∷ [] in
-    let old : AreReasons clauses (record { vars = n; literals = t.literals.items; reasons = t.reasons.items }) = subst (AreReasons clauses) (sym c.self.view_is) all in
-    subst (λ (xs : List ℤ). AreReasons clauses (record { vars = n; literals = xs; reasons = c.push.new.reasons.items })) (sym (c.push.ensures.literals ∙ ap (λ (x : ℤ). t.literals.items ++ x ∷ []) (to_z-of_z w32 c.args.lit c.ranges.lit)))
-    (subst (λ (rs : List ℕ). AreReasons clauses (record { vars = n; literals = lits; reasons = rs })) (sym c.push.ensures.reasons)
-    (reasons_push clauses n t.literals.items t.reasons.items c.args.lit 0 c.self.invariant.same old (λ some. absurd (omega arith))))
+pub invariant_of-self : goal.invariant_of-self
+invariant_of-self c =
+    let t = c.args.self.now in
+    let reasons : c.push_reserved.new.self.items ≡ t.reasons.items ++ 0 ∷ [] = c.push_reserved.ensures.items in
+    let starts : c.push_reserved-2.new.self.items ≡ t.starts.items ++ c.len-place.result ∷ [] = c.push_reserved-2.ensures.items in
+    let place : c.len-place.result ≡ length t.lits.items = search rules in
+    let size : length c.assign.new.at.items ≡ length t.at.items = c.assign.ensures.placed.size in
+    record {
+      placed = subst (λ (n : ℕ). IsPlaced n c.assign.new.lits.items c.assign.new.at.items) (sym size) c.assign.ensures.placed;
+      valued = c.assign.ensures.valued;
+      same = ap length reasons ∙ length_push t.reasons.items 0 ∙ ap (λ (n : ℕ). n + 1) t.same ∙ sym (ap length c.assign.ensures.lits ∙ length_push t.lits.items c.args.lit);
+      levels = subst (λ (xs : List ℕ). AreStarts xs c.push_reserved-2.new.self.items) (sym reasons) (subst (AreStarts (t.reasons.items ++ 0 ∷ [])) (sym starts)
+          (starts_decide t.reasons.items t.starts.items c.len-place.result (place ∙ sym t.same) t.levels));
+      few = omega (arith, size, t.few);
+      lits_room = omega (arith, size, c.assign.ensures.room, t.lits_room);
+      reasons_room = omega (arith, size, c.push_reserved.ensures.capacity, t.reasons_room);
+      starts_room = omega (arith, size, c.push_reserved-2.ensures.capacity, t.starts_room);
+    }

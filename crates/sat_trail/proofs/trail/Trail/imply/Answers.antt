@@ -1,27 +1,21 @@
-use Rattle.std.proofs.Common.{rules, w32, ◌≡◌, ◌-◌, ◌++◌, ◌∷◌, [], ℕ, ℤ, neg_ℤ, List, length, sym, ◌∙◌, ap, subst, ◌⊎◌}
-use Rattle.std.specs.List.{All, Contains}
-use Rattle.std.proofs.lemmas.Int.{to_z-of_z}
-use Rattle.sat_trail.specs.Assigned.{Assigned, decisions, clause_at, AreReasons}
-use Rattle.sat_trail.proofs.Levels.{decisions_implied}
-use Rattle.sat_trail.proofs.Reasons.{reasons_push, reason_next}
+use Rattle.std.proofs.Common.{arith, ◌≡◌, ◌+◌, ◌++◌, ◌∷◌, [], ℕ, List, length, sym, ◌∙◌, ap, subst}
+use Rattle.std.proofs.lemmas.List.{length_push}
+use Rattle.sat_trail.specs.Trail.{IsPlaced, AreStarts}
+use Rattle.sat_trail.proofs.Placing.{starts_imply}
 use Rattle.sat_trail.proofs.trail.Trail.imply.Goals as goal
 
-pub push-requires-clause-level : goal.push-requires-clause-level
-push-requires-clause-level c =
-    let t = c.self.inside in
-    let level : c.present-level.result ≡ decisions t.reasons.items = search rules in
-    level ∙ sym (decisions_implied t.reasons.items c.args.clause c.requires.first)
-
-pub returns-clause-reasons : goal.returns-clause-reasons
-returns-clause-reasons c =
-    let t = c.self.inside in
-    let n : ℕ = length t.places.items - 1 in
-    let clauses : List (List ℤ) = c.args.cnf.now.clauses in
-    let lits : List ℤ = t.literals.items ++ c.args.lit ∷ [] in
-    let old : AreReasons clauses (record { vars = n; literals = t.literals.items; reasons = t.reasons.items }) = subst (AreReasons clauses) (sym c.self.view_is) c.requires.reasons in
-    let others : All (λ m. (m ≡ c.args.lit) ⊎ Contains t.literals.items (neg_ℤ m)) (clause_at clauses c.args.clause) =
-    subst (λ (s : Assigned). All (λ m. (m ≡ c.args.lit) ⊎ Contains s.literals (neg_ℤ m)) (clause_at clauses c.args.clause)) (sym c.self.view_is) c.requires.others in
-    subst (λ (xs : List ℤ). AreReasons clauses (record { vars = n; literals = xs; reasons = c.push.new.reasons.items })) (sym (c.push.ensures.literals ∙ ap (λ (x : ℤ). t.literals.items ++ x ∷ []) (to_z-of_z w32 c.args.lit c.ranges.lit)))
-    (subst (λ (rs : List ℕ). AreReasons clauses (record { vars = n; literals = lits; reasons = rs })) (sym c.push.ensures.reasons)
-    (reasons_push clauses n t.literals.items t.reasons.items c.args.lit c.args.clause c.self.invariant.same old
-    (λ some. reason_next clauses t.literals.items c.args.lit c.args.clause c.requires.last c.requires.inside others)))
+pub invariant_of-self : goal.invariant_of-self
+invariant_of-self c =
+    let t = c.args.self.now in
+    let reasons : c.push_reserved.new.self.items ≡ t.reasons.items ++ c.args.reason ∷ [] = c.push_reserved.ensures.items in
+    let size : length c.assign.new.at.items ≡ length t.at.items = c.assign.ensures.placed.size in
+    record {
+      placed = subst (λ (n : ℕ). IsPlaced n c.assign.new.lits.items c.assign.new.at.items) (sym size) c.assign.ensures.placed;
+      valued = c.assign.ensures.valued;
+      same = ap length reasons ∙ length_push t.reasons.items c.args.reason ∙ ap (λ (n : ℕ). n + 1) t.same ∙ sym (ap length c.assign.ensures.lits ∙ length_push t.lits.items c.args.lit);
+      levels = subst (λ (xs : List ℕ). AreStarts xs t.starts.items) (sym reasons) (starts_imply t.reasons.items t.starts.items c.args.reason t.levels c.requires.reason);
+      few = omega (arith, size, t.few);
+      lits_room = omega (arith, size, c.assign.ensures.room, t.lits_room);
+      reasons_room = omega (arith, size, c.push_reserved.ensures.capacity, t.reasons_room);
+      starts_room = omega (arith, size, t.starts_room);
+    }
