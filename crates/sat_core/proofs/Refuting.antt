@@ -7,7 +7,8 @@ use Rattle.std.proofs.lemmas.List.{get_or-reverse, length-reverse}
 use Rattle.std.proofs.Common.{reverse}
 use Rattle.std.specs.List.{All, Contains}
 use Rattle.sat_core.specs.Derivations.{neg, clause_at, Refutes, LeavesOnly}
-use Rattle.sat_core.specs.Trail.{StandsBelow, IsPlaced, Reasoned, IsMarked, Ready, open_below, Marks, State, IsLearned, StandsFrom, AreKnown}
+use Rattle.sat_core.specs.Trail.{StandsBelow, IsPlaced, Reasoned}
+use Rattle.sat_core.specs.Analysis.{IsMarked, Ready, open_below, Marks, State, IsLearned, StandsFrom, AreKnown}
 use Rattle.sat_core.proofs.Lits.{neg_neg, neg_var, neg_injective}
 
 -- one more hint before others

@@ -3,7 +3,8 @@
 ghost use Rattle.std.specs.Prelude.{◌≡◌, ◌≢◌, ◌≤◌, ◌<◌, ◌+◌, ◌-◌, ◌*◌, ◌/◌, ◌%◌, ◌^◌, ◌++◌, ◌∷◌, [], ℕ, Bool, true, false, List, IfOk, OnOk, OnErr, length, slice_index, slice_index_or, slice_set, map, take, reverse, vec_len, ◌⊎◌, ◌↔◌, IsTrue};
 ghost use Rattle.std.specs.List.{All, Any, Contains};
 ghost use Rattle.sat_core.specs.Derivations.{neg, clause_at, Refutes};
-ghost use Rattle.sat_core.specs.Trail.{StandsBelow, IsPlaced, AreReasoned, Reasoned, IsMarked, Ready, open_below, Marks, State, IsLearned, StandsFrom, AreKnown};
+ghost use Rattle.sat_core.specs.Trail.{StandsBelow, IsPlaced, AreReasoned, Reasoned};
+ghost use Rattle.sat_core.specs.Analysis.{IsMarked, Ready, open_below, Marks, State, IsLearned, StandsFrom, AreKnown};
 
 use crate::clauses::Clauses;
 use std::alloc::AllocError;

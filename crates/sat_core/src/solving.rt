@@ -3,7 +3,8 @@
 ghost use Rattle.std.specs.Prelude.{◌≡◌, ◌≢◌, ◌≤◌, ◌<◌, ◌+◌, ◌-◌, ◌*◌, ◌/◌, ◌%◌, ◌^◌, ◌++◌, ◌∷◌, [], ℕ, Bool, true, false, List, IfOk, OnOk, OnErr, IfSome, IfNone, length, slice_index, slice_index_or, slice_set, map, take, reverse, vec_len, ◌⊎◌, ◌↔◌, IsTrue, ◌==◌};
 ghost use Rattle.std.specs.List.{All, Any, Contains};
 ghost use Rattle.sat_core.specs.Derivations.{neg, clause_at, AreWithin, Follows, MakesTrue};
-ghost use Rattle.sat_core.specs.Trail.{IsPlaced, StandsBelow, IsWrong, IsUnit, AreStarts, IsLearned};
+ghost use Rattle.sat_core.specs.Trail.{IsPlaced, StandsBelow, IsWrong, IsUnit, AreStarts};
+ghost use Rattle.sat_core.specs.Analysis.{IsLearned};
 ghost use Rattle.sat_core.specs.Solving.{Keeps, HasGone, IsOutcome, Standing, IsRowOf};
 ghost use Rattle.sat_core.specs.declared.solving.Outcome.TheVariants.{Unsat};
 ghost use Rattle.sat_core.specs.Rank.{rank};

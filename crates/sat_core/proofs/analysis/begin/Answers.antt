@@ -1,7 +1,8 @@
 use Rattle.std.proofs.Common.{arith, ◌≡◌, ◌≤◌, ◌<◌, ◌++◌, ◌∷◌, [], ℕ, Bool, List, length, get_or, reverse, sym, ◌∙◌, ap, subst, ◌⊎◌, inr, ⊎_elim, refl}
 use Rattle.std.specs.List.{All}
 use Rattle.sat_core.specs.Derivations.{clause_at, neg}
-use Rattle.sat_core.specs.Trail.{IsMarked, Ready, AreKnown, StandsBelow}
+use Rattle.sat_core.specs.Trail.{StandsBelow}
+use Rattle.sat_core.specs.Analysis.{IsMarked, Ready, AreKnown}
 use Rattle.sat_core.proofs.Refuting.{ready_first, marks_clean, stands_small}
 use Rattle.sat_core.proofs.analysis.begin.Goals as goal
 

@@ -1,6 +1,6 @@
 use Rattle.std.proofs.Common.{arith, ◌≡◌, ◌<◌, ◌+◌, ◌-◌, ◌++◌, ◌∷◌, [], ℕ, List, length, get_or, sym, ◌∙◌, ap, subst}
 use Rattle.sat_core.specs.Derivations.{clause_at, neg}
-use Rattle.sat_core.specs.Trail.{IsMarked, State, IsLearned}
+use Rattle.sat_core.specs.Analysis.{IsMarked, State, IsLearned}
 use Rattle.sat_core.proofs.Refuting.{some_counted, past_start, state_skip, learned_is, marks_step}
 use Rattle.sat_core.proofs.analysis.learn.Goals as goal
 

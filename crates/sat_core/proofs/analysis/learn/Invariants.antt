@@ -1,5 +1,5 @@
 use Rattle.std.proofs.Common.{◌≤◌, ◌<◌}
-use Rattle.sat_core.specs.Trail.{State}
+use Rattle.sat_core.specs.Analysis.{State}
 use Rattle.sat_core.proofs.analysis.learn.Given as goal
 
 abbrev pub invariant-down : goal.invariant-down

@@ -1,6 +1,6 @@
 use Rattle.std.proofs.Common.{arith, ◌≡◌, ◌<◌, ◌+◌, ◌-◌, [], ℕ, reverse, sym, subst}
 use Rattle.sat_core.specs.Derivations.{Refutes}
-use Rattle.sat_core.specs.Trail.{AreKnown, State}
+use Rattle.sat_core.specs.Analysis.{AreKnown, State}
 use Rattle.sat_core.proofs.Refuting.{past_start, state_skip, root_refutes, known_reverse}
 use Rattle.sat_core.proofs.analysis.learn_nothing.Goals as goal
 

@@ -1,7 +1,7 @@
 use Rattle.std.proofs.Common.{arith, ◌≡◌, ℕ, List, subst, ◌⊎◌}
 use Rattle.std.specs.List.{All}
 use Rattle.std.proofs.lemmas.List.{take_all}
-use Rattle.sat_core.specs.Trail.{IsMarked}
+use Rattle.sat_core.specs.Analysis.{IsMarked}
 use Rattle.sat_core.proofs.Refuting.{all_marked_more}
 use Rattle.sat_core.proofs.analysis.mark.Goals as goal
 

@@ -1,6 +1,6 @@
 use Rattle.std.proofs.Common.{◌≡◌, ◌≤◌, ℕ, true, false, get_or, take, ◌⊎◌}
 use Rattle.std.specs.List.{All}
-use Rattle.sat_core.specs.Trail.{IsMarked, Marks}
+use Rattle.sat_core.specs.Analysis.{IsMarked, Marks}
 use Rattle.sat_core.proofs.analysis.mark.Given as goal
 
 abbrev pub invariant-loop-lit : goal.invariant-loop-lit

@@ -1,5 +1,5 @@
 use Rattle.std.proofs.Common.{arith, ◌-◌, ◌/◌, ℕ, true, List, length, get_or, set, sym, subst}
-use Rattle.sat_core.specs.Trail.{Marks}
+use Rattle.sat_core.specs.Analysis.{Marks}
 use Rattle.sat_core.proofs.Refuting.{place_of, marks_low, marks_open, open_le}
 use Rattle.sat_core.proofs.analysis.mark_one.Goals as goal
 

@@ -3,7 +3,7 @@ use Rattle.std.specs.List.{All}
 use Rattle.std.proofs.lemmas.List.{reverse-append}
 use Rattle.std.proofs.lemmas.List.Elements.{All-push}
 use Rattle.sat_core.specs.Derivations.{clause_at}
-use Rattle.sat_core.specs.Trail.{IsMarked, Ready, AreKnown}
+use Rattle.sat_core.specs.Analysis.{IsMarked, Ready, AreKnown}
 use Rattle.sat_core.proofs.Refuting.{ready_step, ready_more, marks_step, past_start}
 use Rattle.sat_core.proofs.analysis.resolve.Goals as goal
 
