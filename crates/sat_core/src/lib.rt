@@ -16,6 +16,7 @@ mod guide;
 mod hints;
 mod logs;
 mod looking;
+mod minimising;
 mod ordering;
 mod pace;
 mod ready;

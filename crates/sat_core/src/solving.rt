@@ -14,6 +14,7 @@ use crate::clauses::{Clauses, Formula};
 use crate::guide::Guide;
 use crate::logs::Line;
 use crate::looking::{Look, look_through};
+use crate::minimising::Minimiser;
 use crate::ordering::Order;
 use crate::pace::Pace;
 use crate::trail::Trail;
@@ -208,7 +209,6 @@ fn refute(
     ensures { IfOk result (HasGone vars formula.now s.old s.new) }
 {
     let mut seen = vec![in alloc; false; s.trail.lits.len()]?;
-    let mut learned = Vec::new(alloc);
     let mut hints = Vec::new(alloc);
     learn_nothing(
         &s.db,
@@ -218,7 +218,6 @@ fn refute(
         from,
         conflict,
         &mut seen,
-        &mut learned,
         &mut hints,
     )?;
     s.log.reserve(1)?;
@@ -252,6 +251,7 @@ pub fn meet(
     let mut seen = vec![in alloc; false; s.trail.lits.len()]?;
     let mut learned = Vec::new(alloc);
     let mut hints = Vec::new(alloc);
+    let mut minimiser = Minimiser::new(alloc, start)?;
     let i = learn(
         &s.db,
         &s.trail.lits,
@@ -263,6 +263,7 @@ pub fn meet(
         &mut seen,
         &mut learned,
         &mut hints,
+        &mut minimiser,
     )?;
     conclude(vars, formula, s, order, level, from, i, learned, hints)
 }
