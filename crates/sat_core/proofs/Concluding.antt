@@ -6,7 +6,8 @@ use Rattle.std.proofs.lemmas.List.Elements.{Contains-get_or}
 use Rattle.sat_core.specs.declared.logs.Line.{Line}
 use Rattle.sat_core.specs.Derivations.{neg, clause_at, AreWithin, Refutes, Follows, MakesTrue, Satisfies}
 use Rattle.sat_core.specs.Logged.{AllFollow, clauses_of, IsRefuted}
-use Rattle.sat_core.specs.Trail.{StandsBelow, StandsFrom, IsWrong, IsPlaced, Reasoned, AreStarts, IsLearned, AreKnown}
+use Rattle.sat_core.specs.Trail.{StandsBelow, IsWrong, IsPlaced, Reasoned, AreStarts}
+use Rattle.sat_core.specs.Analysis.{StandsFrom, IsLearned, AreKnown}
 use Rattle.sat_core.specs.Looking.{IsTrueIn, IsOpenIn}
 use Rattle.sat_core.specs.Solving.{Standing}
 use Rattle.sat_core.proofs.Lits.{neg_neg, neg_var, neg_other}

@@ -1,5 +1,6 @@
 pub mod Lits
 pub mod Ranks
+pub mod Marking
 pub mod Refuting
 pub mod Placing
 pub mod Deriving

@@ -1,5 +1,6 @@
 pub mod Derivations
 pub mod Trail
+pub mod Analysis
 pub mod Rank
 pub mod Logged
 pub mod Looking

@@ -1,12 +1,24 @@
-//! From a conflict to a learned clause and its hints.
+//! From a conflict to a learned clause and its hints: resolves back to the first place that all paths from the level's
+//! decision go through (Marques-Silva and Sakallah, GRASP, 1996), and then goes on down the trail, where it resolves what
+//! follows from the rest (Sörensson and Eén, "MiniSat v1.13", 2005; Sörensson and Biere, SAT 2009). Both are one walk over
+//! marked places. Which literals are dropped is the minimiser's guess, and each guess gives a clause that follows.
 
 ghost use Rattle.std.specs.Prelude.{◌≡◌, ◌≢◌, ◌≤◌, ◌<◌, ◌+◌, ◌-◌, ◌*◌, ◌/◌, ◌%◌, ◌^◌, ◌++◌, ◌∷◌, [], ℕ, Bool, true, false, List, IfOk, OnOk, OnErr, length, slice_index, slice_index_or, slice_set, map, take, reverse, vec_len, ◌⊎◌, ◌↔◌, IsTrue};
 ghost use Rattle.std.specs.List.{All, Any, Contains};
 ghost use Rattle.sat_core.specs.Derivations.{neg, clause_at, Refutes};
-ghost use Rattle.sat_core.specs.Trail.{StandsBelow, IsPlaced, AreReasoned, Reasoned, IsMarked, Ready, open_below, Marks, State, IsLearned, StandsFrom, AreKnown};
+ghost use Rattle.sat_core.specs.Trail.{StandsBelow, IsPlaced, AreReasoned, Reasoned};
+ghost use Rattle.sat_core.specs.Analysis.{IsMarked, Ready, Marks, AddsMarks, State, AreResolved, AreKept, IsLearned, StandsFrom, AreKnown};
 
+use crate::minimising::Minimiser;
 use cnf_store::Clauses;
 use std::alloc::AllocError;
+
+/// How many places are marked: from the start of the conflict's level on, and below it.
+#[derive(Clone, Copy, Drop)]
+pub struct Marked {
+    pub above: usize,
+    pub below: usize,
+}
 
 /// The complement.
 pub fn complement(lit: u32) -> u32
@@ -24,31 +36,33 @@ fn mark_one(
     start: usize,
     limit: usize,
     seen: &mut [bool],
-    learned: &mut Vec<u32>,
-    count: usize,
-) -> Result<usize, AllocError>
+    count: Marked,
+) -> Marked
     requires placed { IsPlaced (length at.now) lits.now at.now }
     requires wrong { StandsBelow lits.now limit (neg lit) }
     requires limit { limit ≤ length lits.now }
     requires seen { length seen.old ≡ length lits.now }
-    requires marks { Marks lits.now seen.old start learned.old.items limit count }
-    ensures marks { IfOk result (λ n. Marks lits.now seen.new start learned.new.items limit n) }
-    ensures marked { OnOk result (IsMarked lits.now seen.new limit lit) }
-    ensures grows { IfOk result (λ n. count ≤ n) }
-    ensures length { length seen.new ≡ length seen.old }
-    ensures more { (q : ℕ) → slice_index_or seen.old q false ≡ true → slice_index_or seen.new q false ≡ true }
+    requires marks { Marks seen.old start limit count }
+    ensures marks { Marks seen.new start limit result }
+    ensures marked { IsMarked lits.now seen.new limit lit }
+    ensures grows { count.above ≤ result.above }
+    ensures adds { AddsMarks limit seen.old seen.new }
 {
     let place = at[lit as usize / 2] - 1;
     if seen[place] {
-        return Ok(count);
+        return count;
     }
+    seen[place] = true;
     if place < start {
-        learned.push(lit)?;
-        seen[place] = true;
-        Ok(count)
+        Marked {
+            above: count.above,
+            below: count.below + 1,
+        }
     } else {
-        seen[place] = true;
-        Ok(count + 1)
+        Marked {
+            above: count.above + 1,
+            below: count.below,
+        }
     }
 }
 
@@ -61,24 +75,22 @@ fn mark_other(
     start: usize,
     limit: usize,
     seen: &mut [bool],
-    learned: &mut Vec<u32>,
-    count: usize,
-) -> Result<usize, AllocError>
+    count: Marked,
+) -> Marked
     requires placed { IsPlaced (length at.now) lits.now at.now }
     requires wrong { (lit ≡ skip) ⊎ StandsBelow lits.now limit (neg lit) }
     requires limit { limit ≤ length lits.now }
     requires seen { length seen.old ≡ length lits.now }
-    requires marks { Marks lits.now seen.old start learned.old.items limit count }
-    ensures marks { IfOk result (λ n. Marks lits.now seen.new start learned.new.items limit n) }
-    ensures marked { OnOk result ((lit ≡ skip) ⊎ IsMarked lits.now seen.new limit lit) }
-    ensures grows { IfOk result (λ n. count ≤ n) }
-    ensures length { length seen.new ≡ length seen.old }
-    ensures more { (q : ℕ) → slice_index_or seen.old q false ≡ true → slice_index_or seen.new q false ≡ true }
+    requires marks { Marks seen.old start limit count }
+    ensures marks { Marks seen.new start limit result }
+    ensures marked { (lit ≡ skip) ⊎ IsMarked lits.now seen.new limit lit }
+    ensures grows { count.above ≤ result.above }
+    ensures adds { AddsMarks limit seen.old seen.new }
 {
     if lit == skip {
-        return Ok(count);
+        return count;
     }
-    mark_one(lit, lits, at, start, limit, seen, learned, count)
+    mark_one(lit, lits, at, start, limit, seen, count)
 }
 
 // Marks the places at which the literals of a clause are false, all but this one.
@@ -90,24 +102,23 @@ fn mark(
     start: usize,
     limit: usize,
     seen: &mut [bool],
-    learned: &mut Vec<u32>,
-    count: usize,
-) -> Result<usize, AllocError>
+    count: Marked,
+) -> Marked
     requires placed { IsPlaced (length at.now) lits.now at.now }
     requires wrong { All (λ m. (m ≡ skip) ⊎ StandsBelow lits.now limit (neg m)) clause.now }
     requires limit { limit ≤ length lits.now }
     requires seen { length seen.old ≡ length lits.now }
-    requires marks { Marks lits.now seen.old start learned.old.items limit count }
-    ensures marks { IfOk result (λ n. Marks lits.now seen.new start learned.new.items limit n) }
-    ensures marked { OnOk result (All (λ m. (m ≡ skip) ⊎ IsMarked lits.now seen.new limit m) clause.now) }
-    ensures grows { IfOk result (λ n. count ≤ n) }
-    ensures more { (q : ℕ) → slice_index_or seen.old q false ≡ true → slice_index_or seen.new q false ≡ true }
+    requires marks { Marks seen.old start limit count }
+    ensures marks { Marks seen.new start limit result }
+    ensures marked { All (λ m. (m ≡ skip) ⊎ IsMarked lits.now seen.new limit m) clause.now }
+    ensures grows { count.above ≤ result.above }
+    ensures adds { AddsMarks limit seen.old seen.new }
 {
     let mut total = count;
     for lit in clause {
-        total = mark_other(*lit, skip, lits, at, start, limit, seen, learned, total)?;
+        total = mark_other(*lit, skip, lits, at, start, limit, seen, total);
     }
-    Ok(total)
+    total
 }
 
 // Resolves with the reason of place i.
@@ -119,25 +130,31 @@ fn resolve(
     start: usize,
     i: usize,
     seen: &mut [bool],
-    learned: &mut Vec<u32>,
     hints: &mut Vec<u64>,
-    count: usize,
-) -> Result<usize, AllocError>
+    count: Marked,
+) -> Result<Marked, AllocError>
     requires placed { IsPlaced (length at.now) lits.now at.now }
     requires reasoned { AreReasoned db.now lits.now reasons.now }
     requires same { length reasons.now ≡ length lits.now }
-    requires place { i < length lits.now }
+    requires place { (start ≤ i) × (i < length lits.now) }
     requires implied { 0 < slice_index reasons.now i }
     requires seen { slice_index_or seen.old i false ≡ true }
-    requires state { State db.now lits.now seen.old start learned.old.items hints.old.items (i + 1) (count + 1) }
-    ensures state { IfOk result (λ n. State db.now lits.now seen.new start learned.new.items hints.new.items i n) }
-    ensures grows { IfOk result (λ n. count ≤ n) }
+    requires state { State db.now lits.now seen.old start hints.old.items (i + 1) count }
+    ensures state { IfOk result (λ n. State db.now lits.now seen.new start hints.new.items i n) }
+    ensures grows { IfOk result (λ n. count.above ≤ n.above + 1) }
+    ensures resolved { slice_index_or seen.new i false ≡ false }
+    ensures past { (q : ℕ) → i < q → slice_index_or seen.new q false ≡ slice_index_or seen.old q false }
 {
     let reason = reasons[i];
     let clause = db.get((reason - 1) as usize);
-    let total = mark(clause, lits[i], lits, at, start, i, seen, learned, count)?;
+    let rest = Marked {
+        above: count.above - 1,
+        below: count.below,
+    };
+    let marked = mark(clause, lits[i], lits, at, start, i, seen, rest);
+    seen[i] = false;
     hints.push(reason)?;
-    Ok(total)
+    Ok(marked)
 }
 
 // Marks the literals of the conflict.
@@ -149,9 +166,8 @@ fn begin(
     from: usize,
     conflict: u64,
     seen: &mut [bool],
-    learned: &mut Vec<u32>,
     hints: &mut Vec<u64>,
-) -> Result<usize, AllocError>
+) -> Result<Marked, AllocError>
     requires placed { IsPlaced (length at.now) lits.now at.now }
     requires few { length at.now < 2 ^ 31 }
     requires from { from ≤ length lits.now }
@@ -159,18 +175,20 @@ fn begin(
     requires wrong { All (λ m. StandsBelow lits.now from (neg m)) (clause_at db.now conflict) }
     requires seen { length seen.old ≡ length lits.now }
     requires clean { (q : ℕ) → slice_index_or seen.old q false ≡ false }
-    requires learned { learned.old.items ≡ [] }
     requires hints { hints.old.items ≡ [] }
-    ensures state { IfOk result (λ n. State db.now lits.now seen.new start learned.new.items hints.new.items from n) }
+    ensures state { IfOk result (λ n. State db.now lits.now seen.new start hints.new.items from n) }
     ensures marked { OnOk result (All (λ m. IsMarked lits.now seen.new from m) (clause_at db.now conflict)) }
+    ensures resolved { AreResolved seen.new from }
 {
     let clause = db.get((conflict - 1) as usize);
-    let count = mark(clause, u32::MAX, lits, at, start, from, seen, learned, 0)?;
+    let none = Marked { above: 0, below: 0 };
+    let count = mark(clause, u32::MAX, lits, at, start, from, seen, none);
     hints.push(conflict)?;
     Ok(count)
 }
 
-/// Learns a clause from a conflict: resolves back to the first place that all paths from the last decision go through.
+/// Learns a clause from a conflict: resolves back to the first place that all paths from the last decision go through, and
+/// drops literals that follow from the others. The complement of that place's literal is the clause's last.
 pub fn learn(
     db: &Clauses,
     lits: &[u32],
@@ -182,6 +200,7 @@ pub fn learn(
     seen: &mut [bool],
     learned: &mut Vec<u32>,
     hints: &mut Vec<u64>,
+    minimiser: &mut Minimiser,
 ) -> Result<usize, AllocError>
     requires placed { IsPlaced (length at.now) lits.now at.now }
     requires few { length at.now < 2 ^ 31 }
@@ -198,31 +217,103 @@ pub fn learn(
     requires hints { hints.old.items ≡ [] }
     ensures { IfOk result (λ i. IsLearned db.now lits.now start from i learned.new.items hints.new.items) }
 {
-    let mut count = begin(db, lits, at, start, from, conflict, seen, learned, hints)?;
+    let mut count = begin(db, lits, at, start, from, conflict, seen, hints)?;
     let mut i = from;
     'down: loop {
         i -= 1;
         if seen[i] {
-            if count == 1 {
+            if count.above == 1 {
                 break 'down;
             }
-            count = resolve(
-                db,
-                lits,
-                reasons,
-                at,
-                start,
-                i,
-                seen,
-                learned,
-                hints,
-                count - 1,
-            )?;
+            count = resolve(db, lits, reasons, at, start, i, seen, hints, count)?;
         }
     }
+    let below = Marked {
+        above: count.below,
+        below: 0,
+    };
+    minimise(
+        db, lits, reasons, at, start, i, seen, learned, hints, below, minimiser,
+    )?;
     learned.push(complement(lits[i]))?;
     turn(hints);
     Ok(i)
+}
+
+// Goes on down from start: resolves marked places, or keeps their literals.
+fn minimise(
+    db: &Clauses,
+    lits: &[u32],
+    reasons: &[u64],
+    at: &[usize],
+    start: usize,
+    first: usize,
+    seen: &mut [bool],
+    learned: &mut Vec<u32>,
+    hints: &mut Vec<u64>,
+    count: Marked,
+    minimiser: &mut Minimiser,
+) -> Result<(), AllocError>
+    requires placed { IsPlaced (length at.now) lits.now at.now }
+    requires few { length at.now < 2 ^ 31 }
+    requires reasoned { AreReasoned db.now lits.now reasons.now }
+    requires same { length reasons.now ≡ length lits.now }
+    requires first { (start ≤ first) × (first < length lits.now) }
+    requires state { State db.now lits.now seen.old 0 hints.old.items start count }
+    requires kept { AreKept lits.now seen.old start first start learned.old.items }
+    ensures ready { OnOk result (Ready db.now lits.now seen.new 0 (reverse hints.new.items)) }
+    ensures known { OnOk result (AreKnown db.now hints.new.items) }
+    ensures kept { OnOk result (AreKept lits.now seen.new start first 0 learned.new.items) }
+{
+    let mut left = count;
+    let mut i = start;
+    'down: while left.above > 0 {
+        i -= 1;
+        if seen[i] {
+            left = drop_or_keep(
+                db, lits, reasons, at, start, first, i, seen, learned, hints, left, minimiser,
+            )?;
+        }
+    }
+    Ok(())
+}
+
+// Resolves place i, where it has a reason and the minimiser takes it to follow; else keeps its literal.
+fn drop_or_keep(
+    db: &Clauses,
+    lits: &[u32],
+    reasons: &[u64],
+    at: &[usize],
+    start: usize,
+    first: usize,
+    i: usize,
+    seen: &mut [bool],
+    learned: &mut Vec<u32>,
+    hints: &mut Vec<u64>,
+    count: Marked,
+    minimiser: &mut Minimiser,
+) -> Result<Marked, AllocError>
+    requires placed { IsPlaced (length at.now) lits.now at.now }
+    requires few { length at.now < 2 ^ 31 }
+    requires reasoned { AreReasoned db.now lits.now reasons.now }
+    requires same { length reasons.now ≡ length lits.now }
+    requires first { (start ≤ first) × (first < length lits.now) }
+    requires place { i < start }
+    requires seen { slice_index_or seen.old i false ≡ true }
+    requires state { State db.now lits.now seen.old 0 hints.old.items (i + 1) count }
+    requires kept { AreKept lits.now seen.old start first (i + 1) learned.old.items }
+    ensures state { IfOk result (λ n. State db.now lits.now seen.new 0 hints.new.items i n) }
+    ensures kept { OnOk result (AreKept lits.now seen.new start first i learned.new.items) }
+{
+    if reasons[i] > 0 && minimiser.follows(db, lits, reasons, at, seen, i)? {
+        return Ok(resolve(db, lits, reasons, at, 0, i, seen, hints, count)?);
+    }
+    let kept = complement(lits[i]);
+    learned.push(kept)?;
+    Ok(Marked {
+        above: count.above - 1,
+        below: count.below,
+    })
 }
 
 // Turns the hints round.
@@ -241,7 +332,6 @@ pub fn learn_nothing(
     from: usize,
     conflict: u64,
     seen: &mut [bool],
-    learned: &mut Vec<u32>,
     hints: &mut Vec<u64>,
 ) -> Result<(), AllocError>
     requires placed { IsPlaced (length at.now) lits.now at.now }
@@ -254,17 +344,16 @@ pub fn learn_nothing(
     requires wrong { All (λ m. StandsBelow lits.now from (neg m)) (clause_at db.now conflict) }
     requires seen { length seen.old ≡ length lits.now }
     requires clean { (q : ℕ) → slice_index_or seen.old q false ≡ false }
-    requires learned { learned.old.items ≡ [] }
     requires hints { hints.old.items ≡ [] }
     ensures refutes { OnOk result (Refutes db.now [] hints.new.items) }
     ensures known { OnOk result (AreKnown db.now hints.new.items) }
 {
-    let mut count = begin(db, lits, at, 0, from, conflict, seen, learned, hints)?;
+    let mut count = begin(db, lits, at, 0, from, conflict, seen, hints)?;
     let mut i = from;
-    'down: while count > 0 {
+    'down: while count.above > 0 {
         i -= 1;
         if seen[i] {
-            count = resolve(db, lits, reasons, at, 0, i, seen, learned, hints, count - 1)?;
+            count = resolve(db, lits, reasons, at, 0, i, seen, hints, count)?;
         }
     }
     turn(hints);

@@ -11,6 +11,7 @@ mod answer;
 mod edge;
 mod logs;
 mod looking;
+mod minimising;
 mod ready;
 mod solving;
 mod trail;

@@ -3,7 +3,8 @@
 ghost use Rattle.std.specs.Prelude.{◌≡◌, ◌≢◌, ◌≤◌, ◌<◌, ◌+◌, ◌-◌, ◌*◌, ◌/◌, ◌%◌, ◌^◌, ◌++◌, ◌∷◌, [], ℕ, Bool, true, false, List, IfOk, OnOk, OnErr, IfSome, IfNone, length, slice_index, slice_index_or, slice_set, map, take, reverse, vec_len, ◌⊎◌, ◌↔◌, IsTrue, ◌==◌};
 ghost use Rattle.std.specs.List.{All, Any, Contains};
 ghost use Rattle.sat_core.specs.Derivations.{neg, clause_at, AreWithin, Follows, MakesTrue};
-ghost use Rattle.sat_core.specs.Trail.{IsPlaced, StandsBelow, IsWrong, IsUnit, AreStarts, IsLearned};
+ghost use Rattle.sat_core.specs.Trail.{IsPlaced, StandsBelow, IsWrong, IsUnit, AreStarts};
+ghost use Rattle.sat_core.specs.Analysis.{IsLearned};
 ghost use Rattle.sat_core.specs.Solving.{Keeps, HasGone, IsOutcome, Standing, IsRowOf};
 ghost use Rattle.sat_core.specs.declared.solving.Outcome.TheVariants.{Unsat};
 ghost use Rattle.sat_core.specs.Rank.{rank};
@@ -11,6 +12,7 @@ ghost use Rattle.sat_core.specs.Rank.{rank};
 use crate::analysis::{complement, learn, learn_nothing};
 use crate::logs::Line;
 use crate::looking::{Look, free, look_through};
+use crate::minimising::Minimiser;
 use crate::trail::Trail;
 use crate::watching::{propagate, read_units};
 use cnf_store::{Arena, Clauses, Joined};
@@ -203,7 +205,6 @@ fn refute(
     ensures { IfOk result (HasGone vars formula.now s.old s.new) }
 {
     let mut seen = vec![in alloc; false; s.trail.lits.len()]?;
-    let mut learned = Vec::new(alloc);
     let mut hints = Vec::new(alloc);
     learn_nothing(
         &s.db,
@@ -213,7 +214,6 @@ fn refute(
         from,
         conflict,
         &mut seen,
-        &mut learned,
         &mut hints,
     )?;
     s.log.reserve(1)?;
@@ -247,6 +247,7 @@ pub fn meet(
     let mut seen = vec![in alloc; false; s.trail.lits.len()]?;
     let mut learned = Vec::new(alloc);
     let mut hints = Vec::new(alloc);
+    let mut minimiser = Minimiser::new(alloc, start)?;
     let i = learn(
         &s.db,
         &s.trail.lits,
@@ -258,6 +259,7 @@ pub fn meet(
         &mut seen,
         &mut learned,
         &mut hints,
+        &mut minimiser,
     )?;
     conclude(vars, formula, s, order, level, from, i, learned, hints)
 }

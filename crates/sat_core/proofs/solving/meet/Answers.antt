@@ -1,7 +1,8 @@
 use Rattle.std.proofs.Common.{arith, ◌≡◌, ◌≢◌, ◌≤◌, ◌<◌, ◌-◌, ◌/◌, ℕ, List, length, get_or, sym, ◌∙◌, subst, ◌⊎◌}
 use Rattle.std.specs.List.{Any, Contains}
 use Rattle.sat_core.specs.Derivations.{clause_at, neg}
-use Rattle.sat_core.specs.Trail.{IsWrong, StandsFrom}
+use Rattle.sat_core.specs.Trail.{IsWrong}
+use Rattle.sat_core.specs.Analysis.{StandsFrom}
 use Rattle.std.proofs.lemmas.List.{get_or_default}
 use Rattle.sat_core.proofs.Concluding.{wrong_below, top_stands}
 use Rattle.sat_core.proofs.solving.meet.Goals as goal
