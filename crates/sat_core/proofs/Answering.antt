@@ -5,7 +5,7 @@ use Rattle.cnf_store.specs.Clauses.{Formula, satisfies}
 use Rattle.sat_log.specs.Derivations.{Line as SignedLine, IsAccepted}
 use Rattle.sat_log.proofs.Soundness.{refuted}
 use Rattle.sat_core.specs.declared.logs.Line.{Line}
-use Rattle.sat_core.specs.Derivations.{Satisfies}
+use Rattle.cnf_store.specs.Codes.{Satisfies}
 use Rattle.sat_core.specs.Logged.{IsRefuted}
 use Rattle.sat_core.specs.Signed.{signed_clauses, signed_line}
 use Rattle.sat_core.proofs.Signing.{satisfies_signed, accepted_signed, lines_small, lines_hinted}

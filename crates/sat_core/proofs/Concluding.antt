@@ -4,16 +4,17 @@ use Rattle.std.proofs.lemmas.List.{length_push, get_or_push, get_or_append_left,
 use Rattle.std.specs.List.{All, Any, Contains}
 use Rattle.std.proofs.lemmas.List.Elements.{Contains-get_or}
 use Rattle.sat_core.specs.declared.logs.Line.{Line}
-use Rattle.sat_core.specs.Derivations.{neg, clause_at, AreWithin, Refutes, Follows, MakesTrue, Satisfies}
+use Rattle.cnf_store.specs.Codes.{neg, clause_at, AreWithin, MakesTrue, Satisfies}
+use Rattle.sat_core.specs.Derivations.{Refutes, Follows}
 use Rattle.sat_core.specs.Logged.{AllFollow, clauses_of, IsRefuted}
-use Rattle.sat_core.specs.Trail.{StandsBelow, IsWrong, IsPlaced, Reasoned, AreStarts}
+use Rattle.sat_trail.specs.Trail.{StandsBelow, IsWrong, IsPlaced, Reasoned, AreStarts}
 use Rattle.sat_core.specs.Analysis.{StandsFrom, IsLearned, AreKnown}
-use Rattle.sat_core.specs.Looking.{IsTrueIn, IsOpenIn}
+use Rattle.sat_trail.specs.Looking.{IsTrueIn, IsOpenIn}
 use Rattle.sat_core.specs.Solving.{Standing}
-use Rattle.sat_core.proofs.Lits.{neg_neg, neg_var, neg_other}
-use Rattle.sat_core.proofs.Refuting.{same_place, place_of, stands_small}
+use Rattle.cnf_store.proofs.Lits.{neg_neg, neg_var, neg_other}
+use Rattle.sat_trail.proofs.Placing.{same_place, place_of, stands_small}
 use Rattle.sat_core.proofs.Deriving.{follow_push, clauses_push}
-use Rattle.sat_core.proofs.Upkeep.{reasoned_new}
+use Rattle.sat_trail.proofs.Upkeep.{reasoned_new}
 
 -- the empty clause ends the log
 pub refuted : (vars : ℕ) (formula : List (List ℕ)) (log : List Line) (line : Line) (db : List (List ℕ)) → db ≡ formula ++ clauses_of log → AllFollow vars formula log → line.literals.items ≡ [] → Refutes db [] line.hints.items → AreKnown db line.hints.items → IsRefuted vars formula (log ++ line ∷ [])

@@ -4,9 +4,10 @@ use Rattle.std.proofs.lemmas.List.{append-nil, get_or_default}
 use Rattle.std.specs.List.{All, Any, Contains}
 use Rattle.std.proofs.lemmas.List.Elements.{All-contains, All-push, Contains-append_right}
 use Rattle.sat_core.specs.declared.logs.Line.{Line}
-use Rattle.sat_core.specs.Derivations.{neg, clause_at, Refutes, MakesTrue, Satisfies, Follows}
+use Rattle.cnf_store.specs.Codes.{neg, clause_at, MakesTrue, Satisfies}
+use Rattle.sat_core.specs.Derivations.{Refutes, Follows}
 use Rattle.sat_core.specs.Logged.{AllFollow, clauses_of, IsRefuted}
-use Rattle.sat_core.proofs.Lits.{neg_neg, neg_var}
+use Rattle.cnf_store.proofs.Lits.{neg_neg, neg_var}
 use Rattle.sat_core.proofs.Refuting.{contains_neg_back, contains_cases}
 
 -- one more line

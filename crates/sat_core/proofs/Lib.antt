@@ -1,11 +1,6 @@
-pub mod Lits
-pub mod Ranks
 pub mod Marking
 pub mod Refuting
-pub mod Placing
 pub mod Deriving
-pub mod Seeing
-pub mod Upkeep
 pub mod Concluding
 pub mod Signing
 pub mod Answering

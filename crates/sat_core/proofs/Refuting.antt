@@ -5,10 +5,12 @@ use Rattle.std.proofs.lemmas.List.Elements.{Contains-append_left, Contains-push,
 use Rattle.std.proofs.lemmas.List.{get_or-reverse, length-reverse, length-set}
 use Rattle.std.specs.List.{All, Contains}
 use Rattle.sat_core.specs.declared.analysis.Marked.{Marked}
-use Rattle.sat_core.specs.Derivations.{neg, clause_at, Refutes, LeavesOnly}
-use Rattle.sat_core.specs.Trail.{StandsBelow, IsPlaced, Reasoned}
+use Rattle.cnf_store.specs.Codes.{neg, clause_at}
+use Rattle.sat_core.specs.Derivations.{Refutes, LeavesOnly}
+use Rattle.sat_trail.specs.Trail.{StandsBelow, IsPlaced, Reasoned}
 use Rattle.sat_core.specs.Analysis.{IsMarked, StandsOpen, Ready, open_below, AddsMarks, State, AreResolved, AreKept, IsLearned, StandsFrom, AreKnown}
-use Rattle.sat_core.proofs.Lits.{neg_neg, neg_var, neg_injective}
+use Rattle.sat_trail.proofs.Placing.{same_place}
+use Rattle.cnf_store.proofs.Lits.{neg_neg, neg_var, neg_injective}
 use Rattle.sat_core.proofs.Marking.{marked_within, open_none, marks_skip}
 
 -- one more hint before others
@@ -55,13 +57,6 @@ pub ready_more : (db : List (List ℕ)) (lits : List ℕ) (seen more : List Bool
 ready_more db lits seen more i j hints le adds ready assumed marked stands = ready assumed (λ q is. marked q (adds.more q is))
     (λ l c. let s = stands l c in (s.0, ⊎_elim (λ (lt : s.0 < j). inl lt) (λ (is : get_or more s.0 false ≡ true). ⊎_elim (λ (lt : s.0 < i). inl (omega arith)) (λ (past : i ≤ s.0). inr (sym (adds.past s.0 past) ∙ is)) (cases_lt s.0 i)) s.1, s.2))
 
--- two places with one variable are one
-pub same_place : (vars : ℕ) (lits at : List ℕ) (p q : ℕ) → IsPlaced vars lits at → p < length lits → q < length lits → get_or lits p 0 / 2 ≡ get_or lits q 0 / 2 → p ≡ q
-same_place vars lits at p q is hp hq e =
-    let a = (is.placed p hp).1 in let b = (is.placed q hq).1 in
-    let c : get_or at (get_or lits p 0 / 2) 0 ≡ get_or at (get_or lits q 0 / 2) 0 = ap (λ (v : ℕ). get_or at v 0) e in
-    omega arith
-
 -- what stands below i or at another marked place is of another variable
 apart : (vars : ℕ) (lits at : List ℕ) (seen : List Bool) (i m : ℕ) → IsPlaced vars lits at → length seen ≡ length lits → i < length lits → StandsOpen lits (set seen i false) i m → m / 2 ≡ get_or lits i 0 / 2 → ⊥
 apart vars lits at seen i m is size lt (q, standing, e) v =
@@ -103,19 +98,6 @@ ready_step vars db lits at seen i r hints is size lt why all ready assumed marke
 pub root_refutes : (db : List (List ℕ)) (lits : List ℕ) (seen : List Bool) (i : ℕ) (hints : List ℕ) → Ready db lits seen i hints → open_below seen 0 i ≡ 0 → AreResolved seen i → Refutes db [] hints
 root_refutes db lits seen i hints ready none done = ready []
     (λ q is. absurd (⊎_elim (λ (lt : q < i). open_none seen 0 i q none (omega arith) lt is) (λ (le : i ≤ q). false≢true (sym (done q le) ∙ is)) (cases_lt q i))) (λ l c. absurd (omega arith))
-
--- where a false literal's complement stands
-pub place_of : (vars : ℕ) (lits at : List ℕ) (limit l : ℕ) → IsPlaced vars lits at → limit ≤ length lits → StandsBelow lits limit (neg l) → (0 < get_or at (l / 2) 0) × (get_or at (l / 2) 0 - 1 < limit) × (get_or lits (get_or at (l / 2) 0 - 1) 0 ≡ neg l)
-place_of vars lits at limit l is le (q, lt, e) =
-    let a = (is.placed q (omega arith)).1 in
-    let v : get_or lits q 0 / 2 ≡ l / 2 = ap (λ (x : ℕ). x / 2) e ∙ neg_var l in
-    let b : get_or at (l / 2) 0 ≡ q + 1 = subst (λ (x : ℕ). get_or at x 0 ≡ q + 1) v a in
-    let p : get_or at (l / 2) 0 - 1 ≡ q = omega arith in
-    (omega arith, omega arith, ap (λ (x : ℕ). get_or lits x 0) p ∙ e)
-
--- literals on the trail are within the variables, and their complements
-pub stands_small : (vars : ℕ) (lits at : List ℕ) (limit l : ℕ) → IsPlaced vars lits at → limit ≤ length lits → StandsBelow lits limit (neg l) → l < 2 * vars
-stands_small vars lits at limit l is le (q, lt, e) = let a = (is.placed q (omega arith)).0 in omega arith
 
 -- an unmarked place is passed
 pub state_skip : (db : List (List ℕ)) (lits : List ℕ) (seen : List Bool) (start : ℕ) (hints : List ℕ) (i : ℕ) (count : Marked) → get_or seen i false ≡ false → State db lits seen start hints (i + 1) count → State db lits seen start hints i count

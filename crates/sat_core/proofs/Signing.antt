@@ -7,7 +7,8 @@ use Rattle.cnf_store.specs.Clauses.{literal_true, clause_true, satisfies, IsLite
 use Rattle.sat_log.specs.Derivations.{Line as SignedLine, LeavesOnly as SignedLeavesOnly, Refutes as SignedRefutes, Follows as SignedFollows, AllFollow as SignedAllFollow, EndsEmpty, IsAccepted}
 use Rattle.sat_log.proofs.Soundness.{true_some}
 use Rattle.sat_core.specs.declared.logs.Line.{Line}
-use Rattle.sat_core.specs.Derivations.{neg, clause_at, Refutes, Follows, MakesTrue, Satisfies}
+use Rattle.cnf_store.specs.Codes.{neg, clause_at, MakesTrue, Satisfies}
+use Rattle.sat_core.specs.Derivations.{Refutes, Follows}
 use Rattle.sat_core.specs.Logged.{AllFollow, clauses_of, IsRefuted}
 use Rattle.sat_core.specs.Signed.{signed, lit_of, signed_clauses, signed_line}
 

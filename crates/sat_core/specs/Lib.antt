@@ -1,9 +1,6 @@
 pub mod Derivations
-pub mod Trail
 pub mod Analysis
-pub mod Rank
 pub mod Logged
-pub mod Looking
 pub mod Solving
 pub mod Watching
 pub mod Signed

@@ -1,6 +1,6 @@
 -- A formula by codes, as it is kept between questions.
 use Rattle.std.specs.Prelude.{◌≤◌, ℕ, List}
-use Rattle.sat_core.specs.Derivations.{AreWithin}
+use Rattle.cnf_store.specs.Codes.{AreWithin}
 
 pub record AreCodes (vars : ℕ) (codes : List (List ℕ)) : Type 0 where
   pub few : vars ≤ 2147483647

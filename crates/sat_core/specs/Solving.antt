@@ -6,11 +6,11 @@ use Rattle.sat_core.specs.declared.solving.Outcome.{Outcome}
 use Rattle.sat_core.specs.declared.solving.Outcome.TheVariants.{Sat, Unsat}
 use Rattle.sat_core.specs.declared.solving.Gone.{Gone}
 use Rattle.sat_core.specs.declared.solving.Gone.TheVariants.{On, Refuted, Full}
-use Rattle.sat_core.specs.declared.trail.Trail.{Trail}
-use Rattle.sat_core.specs.Derivations.{AreWithin, Satisfies, MakesTrue}
+use Rattle.sat_trail.specs.declared.trail.Trail.{Trail}
+use Rattle.cnf_store.specs.Codes.{AreWithin, Satisfies, MakesTrue}
 use Rattle.sat_core.specs.Logged.{AllFollow, clauses_of, IsRefuted}
-use Rattle.sat_core.specs.Trail.{StandsBelow, AreReasoned}
-use Rattle.sat_core.specs.Rank.{rank}
+use Rattle.sat_trail.specs.Trail.{StandsBelow, AreReasoned}
+use Rattle.sat_trail.specs.Rank.{rank}
 
 pub record Keeps (vars : ℕ) (formula : List (List ℕ)) (s : Solver) : Type 0 where
   pub clauses : s.db ≡ formula ++ clauses_of s.log.items

@@ -1,10 +1,10 @@
 -- What propagation does.
 use Rattle.std.specs.Prelude.{◌≡◌, ◌≤◌, ◌<◌, ◌+◌, ℕ, List, length, Option, Some, None}
 use Rattle.sat_core.specs.declared.solving.Solver.{Solver}
-use Rattle.sat_core.specs.Derivations.{clause_at}
-use Rattle.sat_core.specs.Trail.{IsWrong}
+use Rattle.cnf_store.specs.Codes.{clause_at}
+use Rattle.sat_trail.specs.Trail.{IsWrong}
 use Rattle.sat_core.specs.Solving.{Keeps}
-use Rattle.sat_core.specs.Rank.{rank}
+use Rattle.sat_trail.specs.Rank.{rank}
 
 -- the trail goes on
 pub record Grows (vars : ℕ) (formula : List (List ℕ)) (old new : Solver) : Type 0 where

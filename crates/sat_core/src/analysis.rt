@@ -5,12 +5,14 @@
 
 ghost use Rattle.std.specs.Prelude.{◌≡◌, ◌≢◌, ◌≤◌, ◌<◌, ◌+◌, ◌-◌, ◌*◌, ◌/◌, ◌%◌, ◌^◌, ◌++◌, ◌∷◌, [], ℕ, Bool, true, false, List, IfOk, OnOk, OnErr, length, slice_index, slice_index_or, slice_set, map, take, reverse, vec_len, ◌⊎◌, ◌↔◌, IsTrue};
 ghost use Rattle.std.specs.List.{All, Any, Contains};
-ghost use Rattle.sat_core.specs.Derivations.{neg, clause_at, Refutes};
-ghost use Rattle.sat_core.specs.Trail.{StandsBelow, IsPlaced, AreReasoned, Reasoned};
+ghost use Rattle.cnf_store.specs.Codes.{neg, clause_at};
+ghost use Rattle.sat_core.specs.Derivations.{Refutes};
+ghost use Rattle.sat_trail.specs.Trail.{StandsBelow, IsPlaced, AreReasoned, Reasoned};
 ghost use Rattle.sat_core.specs.Analysis.{IsMarked, Ready, Marks, AddsMarks, State, AreResolved, AreKept, IsLearned, StandsFrom, AreKnown};
 
 use crate::minimising::Minimiser;
 use cnf_store::Clauses;
+use sat_trail::complement;
 use std::alloc::AllocError;
 
 /// How many places are marked: from the start of the conflict's level on, and below it.
@@ -18,14 +20,6 @@ use std::alloc::AllocError;
 pub struct Marked {
     pub above: usize,
     pub below: usize,
-}
-
-/// The complement.
-pub fn complement(lit: u32) -> u32
-    requires { lit < 2 ^ 32 - 2 }
-    ensures { result ≡ neg lit }
-{
-    if lit % 2 == 0 { lit + 1 } else { lit - 1 }
 }
 
 // Marks the place at which a literal is false.

@@ -3,7 +3,7 @@
 ghost use Rattle.std.specs.Prelude.{◌≡◌, ◌≢◌, ◌≤◌, ◌<◌, ◌-◌, ◌*◌, ◌^◌, ◌++◌, pos, ◌≤ℤ◌, ◌<ℤ◌, ℕ, ℤ, neg_ℤ, map, length, slice_index_or, Bool, false, IfOk, OnOk, unsigned_abs};
 ghost use Rattle.std.specs.List.{All};
 ghost use Rattle.cnf_store.specs.Clauses.{IsLiteral, AreLiterals};
-ghost use Rattle.sat_core.specs.Derivations.{AreWithin};
+ghost use Rattle.cnf_store.specs.Codes.{AreWithin};
 ghost use Rattle.sat_core.specs.Signed.{lit_of, signed_clauses, signed_line};
 
 use crate::logs::Line;

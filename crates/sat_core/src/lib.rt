@@ -10,11 +10,9 @@ mod analysis;
 mod answer;
 mod edge;
 mod logs;
-mod looking;
 mod minimising;
 mod ready;
 mod solving;
-mod trail;
 mod watching;
 mod workspace;
 

@@ -2,7 +2,7 @@
 
 ghost use Rattle.std.specs.Prelude.{◌≡◌, ◌≤◌, ◌<◌, ◌^◌, ◌++◌, IfOk};
 ghost use Rattle.sat_core.specs.Answers.{IsAnswer, IsDecided, joined};
-ghost use Rattle.sat_core.specs.Derivations.{AreWithin};
+ghost use Rattle.cnf_store.specs.Codes.{AreWithin};
 ghost use Rattle.sat_core.specs.Signed.{signed_clauses};
 
 use crate::answer::Answer;

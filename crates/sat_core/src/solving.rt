@@ -2,21 +2,21 @@
 
 ghost use Rattle.std.specs.Prelude.{◌≡◌, ◌≢◌, ◌≤◌, ◌<◌, ◌+◌, ◌-◌, ◌*◌, ◌/◌, ◌%◌, ◌^◌, ◌++◌, ◌∷◌, [], ℕ, Bool, true, false, List, IfOk, OnOk, OnErr, IfSome, IfNone, length, slice_index, slice_index_or, slice_set, map, take, reverse, vec_len, ◌⊎◌, ◌↔◌, IsTrue, ◌==◌};
 ghost use Rattle.std.specs.List.{All, Any, Contains};
-ghost use Rattle.sat_core.specs.Derivations.{neg, clause_at, AreWithin, Follows, MakesTrue};
-ghost use Rattle.sat_core.specs.Trail.{IsPlaced, StandsBelow, IsWrong, IsUnit, AreStarts};
+ghost use Rattle.cnf_store.specs.Codes.{neg, clause_at, AreWithin, MakesTrue};
+ghost use Rattle.sat_core.specs.Derivations.{Follows};
+ghost use Rattle.sat_trail.specs.Trail.{IsPlaced, StandsBelow, IsWrong, IsUnit, AreStarts};
 ghost use Rattle.sat_core.specs.Analysis.{IsLearned};
 ghost use Rattle.sat_core.specs.Solving.{Keeps, HasGone, IsOutcome, Standing, IsRowOf};
 ghost use Rattle.sat_core.specs.declared.solving.Outcome.TheVariants.{Unsat};
-ghost use Rattle.sat_core.specs.Rank.{rank};
+ghost use Rattle.sat_trail.specs.Rank.{rank};
 
-use crate::analysis::{complement, learn, learn_nothing};
+use crate::analysis::{learn, learn_nothing};
 use crate::logs::Line;
-use crate::looking::{Look, free, look_through};
 use crate::minimising::Minimiser;
-use crate::trail::Trail;
 use crate::watching::{propagate, read_units};
 use cnf_store::{Arena, Clauses, Joined};
 use sat_guide::{Guide, Order, Pace, Uses};
+use sat_trail::{Look, Trail, complement};
 use std::alloc::{AllocError, Global};
 
 /// What a solver has at hand.
@@ -40,47 +40,6 @@ pub enum Gone {
     On,
     Refuted,
     Full,
-}
-
-/// One past the greatest place of a literal of the clause, but for this one.
-fn top(clause: &[u32], skip: u32, at: &[usize]) -> usize
-    requires within { All (λ l. l < 2 * length at.now) clause.now }
-    ensures most { (l : ℕ) → Contains clause.now l → (l ≡ skip) ⊎ (slice_index at.now (l / 2) ≤ result) }
-    ensures met { (result ≡ 0) ⊎ Any (λ l. (l ≢ skip) × (slice_index at.now (l / 2) ≡ result)) clause.now }
-{
-    let mut most = 0;
-    for lit in clause {
-        most = higher(*lit, skip, at, most);
-    }
-    most
-}
-
-// The greater of a literal's place and this.
-fn higher(lit: u32, skip: u32, at: &[usize], most: usize) -> usize
-    requires { lit / 2 < length at.now }
-    ensures most { most ≤ result }
-    ensures here { (lit ≡ skip) ⊎ (slice_index at.now (lit / 2) ≤ result) }
-    ensures met { (result ≡ most) ⊎ ((lit ≢ skip) × (slice_index at.now (lit / 2) ≡ result)) }
-{
-    let place = at[lit as usize / 2];
-    if lit == skip || place <= most {
-        most
-    } else {
-        place
-    }
-}
-
-// How many levels begin below a place.
-pub fn level_below(starts: &[usize], place: usize) -> usize
-    ensures within { result ≤ length starts.now }
-    ensures below { 0 < result → slice_index starts.now (result - 1) < place }
-    ensures above { result < length starts.now → place ≤ slice_index starts.now result }
-{
-    let mut level = starts.len();
-    'down: while level > 0 && starts[level - 1] >= place {
-        level -= 1;
-    }
-    level
 }
 
 // Adds what a clause implies.
@@ -173,8 +132,8 @@ fn conclude(
     ensures { IfOk result (HasGone vars formula.now s.old s.new) }
 {
     let lit = complement(s.trail.lits[i]);
-    let second = top(&learned, lit, &s.trail.at);
-    let cut = level_below(&s.trail.starts, second);
+    let second = s.trail.top(&learned, lit);
+    let cut = s.trail.level_below(second);
     release_from(order, &s.trail, cut)?;
     s.db.add(&learned)?;
     let number = s.db.len() as u64;
@@ -238,8 +197,10 @@ pub fn meet(
     requires wrong { IsWrong s.old.trail.lits.items (length s.old.trail.lits.items) (clause_at s.old.db conflict) }
     ensures { IfOk result (HasGone vars formula.now s.old s.new) }
 {
-    let from = top(s.db.get((conflict - 1) as usize), u32::MAX, &s.trail.at);
-    let level = level_below(&s.trail.starts, from);
+    let from = s
+        .trail
+        .top(s.db.get((conflict - 1) as usize), u32::MAX);
+    let level = s.trail.level_below(from);
     if level == 0 {
         return refute(alloc, vars, formula, s, from, conflict);
     }
@@ -296,7 +257,7 @@ pub fn check_all(
     requires full { (v : ℕ) → v < vars → 0 < slice_index s.old.trail.at.items v }
     ensures { IfOk result (HasGone vars formula.now s.old s.new) }
 {
-    match look_through(&s.db, &s.trail.lits, &s.trail.at) {
+    match s.trail.look_through(&s.db) {
         Look::Implied(lit, clause) => go_on(vars, formula, s, lit, clause),
         Look::Conflict(clause) => meet(alloc, vars, formula, s, order, clause),
         Look::Quiet => Ok(Gone::Full),
@@ -313,7 +274,7 @@ fn pick(order: &mut Order, trail: &Trail) -> Option<usize>
             return Some(var);
         }
     }
-    free(&trail.at)
+    trail.free()
 }
 
 // Whether a variable has no value.

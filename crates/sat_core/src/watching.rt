@@ -1,16 +1,15 @@
 //! Propagation by watched literals. The watches are hints: each clause that they lead to is read again.
 
 ghost use Rattle.std.specs.Prelude.{◌≡◌, ◌≤◌, ◌<◌, ◌+◌, ◌^◌, IfOk, OnOk, length};
-ghost use Rattle.sat_core.specs.Derivations.{clause_at};
+ghost use Rattle.cnf_store.specs.Codes.{clause_at};
 ghost use Rattle.sat_core.specs.Solving.{Keeps};
-ghost use Rattle.sat_core.specs.Looking.{IsFound};
+ghost use Rattle.sat_trail.specs.Looking.{IsFound};
 ghost use Rattle.sat_core.specs.Watching.{HasSwept};
 
-use crate::analysis::complement;
-use crate::looking::{Found, inspect};
 use crate::solving::{Solver, add_implied};
 use cnf_store::Joined;
 use sat_guide::{Guide, Sweep, Watches};
+use sat_trail::{Found, complement};
 use std::alloc::{AllocError, Global};
 
 // What the trail says of clause `number`.
@@ -20,7 +19,7 @@ fn inspect_in(vars: usize, formula: &Joined, s: &Solver, number: usize) -> Found
     requires number { number < length s.now.db }
     ensures { IsFound s.now.trail.lits.items s.now.trail.at.items (clause_at s.now.db (number + 1)) result }
 {
-    inspect(s.db.get(number), &s.trail.lits, &s.trail.at)
+    s.trail.inspect(s.db.get(number))
 }
 
 // Takes what a clause implies, or finds that it is false.

@@ -2,9 +2,9 @@
 
 ghost use Rattle.std.specs.Prelude.{◌≡◌, ◌<◌, ◌^◌, [], IfOk, length};
 
-use crate::trail::Trail;
 use cnf_store::Arena;
 use sat_guide::{Guide, Hints};
+use sat_trail::Trail;
 use std::alloc::{AllocError, Global};
 
 /// What one question leaves to the next, over any formulas: nothing is copied where they share one. It holds no more than a

@@ -1,10 +1,11 @@
 use Rattle.std.proofs.Common.{arith, ◌≡◌, ◌≤◌, ◌<◌, ◌++◌, ◌∷◌, [], ℕ, Bool, List, length, get_or, reverse, sym, ◌∙◌, ap, subst, ◌⊎◌, inr, ⊎_elim, refl}
 use Rattle.std.specs.List.{All}
-use Rattle.sat_core.specs.Derivations.{clause_at, neg}
+use Rattle.cnf_store.specs.Codes.{clause_at, neg}
 use Rattle.sat_core.specs.Analysis.{IsMarked, Ready, AreKnown}
-use Rattle.sat_core.specs.Trail.{StandsBelow}
+use Rattle.sat_trail.specs.Trail.{StandsBelow}
 use Rattle.sat_core.proofs.Marking.{marks_clean}
-use Rattle.sat_core.proofs.Refuting.{ready_first, stands_small}
+use Rattle.sat_trail.proofs.Placing.{stands_small}
+use Rattle.sat_core.proofs.Refuting.{ready_first}
 use Rattle.sat_core.proofs.analysis.begin.Goals as goal
 
 pub mark-count-requires-clause-wrong : goal.mark-count-requires-clause-wrong

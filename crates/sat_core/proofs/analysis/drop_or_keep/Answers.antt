@@ -1,5 +1,5 @@
 use Rattle.std.proofs.Common.{arith, ◌≡◌, ◌+◌, ◌++◌, ◌∷◌, [], ℕ, List, get_or, reverse, sym, ◌∙◌, ap, subst}
-use Rattle.sat_core.specs.Derivations.{neg}
+use Rattle.cnf_store.specs.Codes.{neg}
 use Rattle.sat_core.specs.Analysis.{AreKept}
 use Rattle.sat_core.proofs.Marking.{marks_step}
 use Rattle.sat_core.proofs.Refuting.{ready_down, kept_resolve, kept_push}

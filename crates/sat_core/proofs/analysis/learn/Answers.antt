@@ -1,5 +1,5 @@
 use Rattle.std.proofs.Common.{arith, ◌≡◌, ◌<◌, ◌+◌, ◌-◌, ◌++◌, ◌∷◌, [], ℕ, List, length, get_or, reverse, refl, sym, ◌∙◌, ap, subst}
-use Rattle.sat_core.specs.Derivations.{clause_at, neg}
+use Rattle.cnf_store.specs.Codes.{clause_at, neg}
 use Rattle.sat_core.specs.Analysis.{IsMarked, State, AreResolved, AreKept, IsLearned}
 use Rattle.sat_core.proofs.Marking.{past_start, marks_step, marks_below}
 use Rattle.sat_core.proofs.Refuting.{some_counted, state_skip, resolved_more, ready_down, kept_first, learned_is}

@@ -2,7 +2,7 @@ use Rattle.std.proofs.Common.{arith, ◌≡◌, ◌≤◌, ◌<◌, ◌+◌, ◌
 use Rattle.std.specs.List.{All}
 use Rattle.std.proofs.lemmas.List.{reverse-append, length-set}
 use Rattle.std.proofs.lemmas.List.Elements.{All-push}
-use Rattle.sat_core.specs.Derivations.{clause_at}
+use Rattle.cnf_store.specs.Codes.{clause_at}
 use Rattle.sat_core.specs.Analysis.{IsMarked, Ready, AreKnown}
 use Rattle.sat_core.proofs.Marking.{marks_step, marks_unset}
 use Rattle.sat_core.proofs.Refuting.{ready_step, ready_more}

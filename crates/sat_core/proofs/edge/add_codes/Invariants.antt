@@ -1,5 +1,5 @@
 use Rattle.std.proofs.Common.{◌≡◌, ◌++◌, take}
-use Rattle.sat_core.specs.Derivations.{AreWithin}
+use Rattle.cnf_store.specs.Codes.{AreWithin}
 use Rattle.sat_core.specs.Signed.{signed_clauses}
 use Rattle.sat_core.proofs.edge.add_codes.Given as goal
 

@@ -1,10 +1,10 @@
 use Rattle.std.proofs.Common.{arith, ◌<◌, ◌-◌, ◌*◌, ◌/◌, ◌++◌, ◌∷◌, [], ℕ, List, sym, ◌∙◌, subst, refl}
 use Rattle.std.proofs.lemmas.List.Elements.{All-contains}
-use Rattle.sat_core.specs.Trail.{AreReasoned, IsPlaced}
-use Rattle.sat_core.specs.Derivations.{clause_at}
-use Rattle.sat_core.specs.Rank.{rank}
-use Rattle.sat_core.proofs.Upkeep.{are_reasoned_push, reasoned_new, has_room}
-use Rattle.sat_core.proofs.Ranks.{rank_push}
+use Rattle.sat_trail.specs.Trail.{AreReasoned, IsPlaced}
+use Rattle.cnf_store.specs.Codes.{clause_at}
+use Rattle.sat_trail.specs.Rank.{rank}
+use Rattle.sat_trail.proofs.Upkeep.{are_reasoned_push, reasoned_new, has_room}
+use Rattle.sat_trail.proofs.Ranks.{rank_push}
 use Rattle.sat_core.proofs.solving.add_implied.Goals as goal
 
 pub returns : goal.returns

@@ -4,13 +4,14 @@ use Rattle.std.proofs.lemmas.List.{get_or_default, length-take-le, length_push}
 use Rattle.std.proofs.lemmas.List.Elements.{All-push}
 use Rattle.sat_core.specs.declared.logs.Line.{Line}
 use Rattle.sat_core.specs.Logged.{AllFollow, clauses_of}
-use Rattle.sat_core.specs.Derivations.{neg, AreWithin, Follows}
-use Rattle.sat_core.specs.Trail.{IsPlaced, AreReasoned}
-use Rattle.sat_core.specs.Rank.{rank}
-use Rattle.sat_core.proofs.Lits.{neg_var}
-use Rattle.sat_core.proofs.Ranks.{rank_replace}
+use Rattle.cnf_store.specs.Codes.{neg, AreWithin}
+use Rattle.sat_core.specs.Derivations.{Follows}
+use Rattle.sat_trail.specs.Trail.{IsPlaced, AreReasoned}
+use Rattle.sat_trail.specs.Rank.{rank}
+use Rattle.cnf_store.proofs.Lits.{neg_var}
+use Rattle.sat_trail.proofs.Ranks.{rank_replace}
 use Rattle.sat_core.proofs.Deriving.{follow_push, clauses_push}
-use Rattle.sat_core.proofs.Upkeep.{are_reasoned_db, are_reasoned_take, are_reasoned_push, freed}
+use Rattle.sat_trail.proofs.Upkeep.{are_reasoned_db, are_reasoned_take, are_reasoned_push, freed}
 use Rattle.sat_core.proofs.Concluding.{learned_small, learned_follows, second_le, cut_below, cut_start, learned_reasoned}
 use Rattle.sat_core.proofs.solving.conclude.Goals as goal
 
@@ -18,7 +19,7 @@ pub top-second-requires : goal.top-second-requires
 top-second-requires c =
     let s = c.args.s.now in let t = s.trail in
     let small = learned_small (length t.at.items) s.db t.lits.items t.at.items (get_or t.starts.items (c.args.level - 1) 0) c.args.limit c.args.i c.args.learned.items c.args.hints.items t.placed c.requires.learned c.requires.limit in
-    record { within = subst (λ (xs : List ℕ). All (λ l. l < 2 * length c.deref-2.result.now) xs) (sym c.deref.ensures.value) (subst (λ (at : List ℕ). All (λ l. l < 2 * length at) c.args.learned.items) (sym c.deref-2.ensures.value) small) }
+    record { within = subst (λ (xs : List ℕ). All (λ l. l < 2 * length t.at.items) xs) (sym c.deref.ensures.value) small }
 
 pub back_to-requires : goal.back_to-requires
 back_to-requires c =
@@ -26,12 +27,11 @@ back_to-requires c =
     let is = c.requires.learned in
     let start : ℕ = get_or t.starts.items (c.args.level - 1) 0 in
     let lit : c.complement-lit.result ≡ neg (get_or t.lits.items c.args.i 0) = c.complement-lit.ensures ∙ ap neg (c.index.ensures ∙ get_or_default t.lits.items c.args.i c.index.result.now 0 (omega (arith, is.below, c.requires.limit))) in
-    let met = subst (λ (xs : List ℕ). (c.top-second.result ≡ 0) ⊎ Any (λ l. (l ≢ c.complement-lit.result) × (get_or xs (l / 2) 0 ≡ c.top-second.result)) c.args.learned.items) c.deref-2.ensures.value
-    (subst (λ (cl : List ℕ). (c.top-second.result ≡ 0) ⊎ Any (λ l. (l ≢ c.complement-lit.result) × (get_or c.deref-2.result.now (l / 2) 0 ≡ c.top-second.result)) cl) c.deref.ensures.value c.top-second.ensures.met) in
+    let met = subst (λ (cl : List ℕ). (c.top-second.result ≡ 0) ⊎ Any (λ l. (l ≢ c.complement-lit.result) × (get_or t.at.items (l / 2) 0 ≡ c.top-second.result)) cl) c.deref.ensures.value c.top-second.ensures.met in
     let le = second_le (length t.at.items) s.db t.lits.items t.at.items start c.args.limit c.args.i c.args.learned.items c.args.hints.items c.complement-lit.result c.top-second.result t.placed is c.requires.limit lit met in
     let cut : ℕ = c.level_below-cut.result in
-    let within : cut ≤ length t.starts.items = subst (λ (xs : List ℕ). cut ≤ length xs) c.deref-3.ensures.value c.level_below-cut.ensures.within in
-    let below : 0 < cut → get_or t.starts.items (cut - 1) 0 < c.top-second.result = subst (λ (xs : List ℕ). 0 < cut → get_or xs (cut - 1) 0 < c.top-second.result) c.deref-3.ensures.value c.level_below-cut.ensures.below in
+    let within : cut ≤ length t.starts.items = c.level_below-cut.ensures.within in
+    let below : 0 < cut → get_or t.starts.items (cut - 1) 0 < c.top-second.result = c.level_below-cut.ensures.below in
     let lt = cut_below t.reasons.items t.starts.items c.args.level cut c.top-second.result t.levels c.requires.level.0 c.requires.level.1 within le below in
     omega (arith, lt, c.requires.level.1)
 
@@ -41,12 +41,11 @@ imply-requires-clause-free c =
     let is = c.requires.learned in
     let start : ℕ = get_or t.starts.items (c.args.level - 1) 0 in
     let lit : c.complement-lit.result ≡ neg (get_or t.lits.items c.args.i 0) = c.complement-lit.ensures ∙ ap neg (c.index.ensures ∙ get_or_default t.lits.items c.args.i c.index.result.now 0 (omega (arith, is.below, c.requires.limit))) in
-    let met = subst (λ (xs : List ℕ). (c.top-second.result ≡ 0) ⊎ Any (λ l. (l ≢ c.complement-lit.result) × (get_or xs (l / 2) 0 ≡ c.top-second.result)) c.args.learned.items) c.deref-2.ensures.value
-    (subst (λ (cl : List ℕ). (c.top-second.result ≡ 0) ⊎ Any (λ l. (l ≢ c.complement-lit.result) × (get_or c.deref-2.result.now (l / 2) 0 ≡ c.top-second.result)) cl) c.deref.ensures.value c.top-second.ensures.met) in
+    let met = subst (λ (cl : List ℕ). (c.top-second.result ≡ 0) ⊎ Any (λ l. (l ≢ c.complement-lit.result) × (get_or t.at.items (l / 2) 0 ≡ c.top-second.result)) cl) c.deref.ensures.value c.top-second.ensures.met in
     let le = second_le (length t.at.items) s.db t.lits.items t.at.items start c.args.limit c.args.i c.args.learned.items c.args.hints.items c.complement-lit.result c.top-second.result t.placed is c.requires.limit lit met in
     let cut : ℕ = c.level_below-cut.result in
-    let within : cut ≤ length t.starts.items = subst (λ (xs : List ℕ). cut ≤ length xs) c.deref-3.ensures.value c.level_below-cut.ensures.within in
-    let below : 0 < cut → get_or t.starts.items (cut - 1) 0 < c.top-second.result = subst (λ (xs : List ℕ). 0 < cut → get_or xs (cut - 1) 0 < c.top-second.result) c.deref-3.ensures.value c.level_below-cut.ensures.below in
+    let within : cut ≤ length t.starts.items = c.level_below-cut.ensures.within in
+    let below : 0 < cut → get_or t.starts.items (cut - 1) 0 < c.top-second.result = c.level_below-cut.ensures.below in
     let lt = cut_below t.reasons.items t.starts.items c.args.level cut c.top-second.result t.levels c.requires.level.0 c.requires.level.1 within le below in
     let at_start = cut_start t.reasons.items t.starts.items c.args.level cut t.levels lt c.requires.level.1 in
     let e = c.back_to.ensures in
@@ -66,21 +65,19 @@ returns c =
     let second : ℕ = c.top-second.result in
     let lit : ℕ = c.complement-lit.result in
     let lit_is : lit ≡ neg (get_or t.lits.items c.args.i 0) = c.complement-lit.ensures ∙ ap neg (c.index.ensures ∙ get_or_default t.lits.items c.args.i c.index.result.now 0 (omega (arith, is.below, c.requires.limit))) in
-    let met = subst (λ (xs : List ℕ). (second ≡ 0) ⊎ Any (λ l. (l ≢ lit) × (get_or xs (l / 2) 0 ≡ second)) learned) c.deref-2.ensures.value
-    (subst (λ (cl : List ℕ). (second ≡ 0) ⊎ Any (λ l. (l ≢ lit) × (get_or c.deref-2.result.now (l / 2) 0 ≡ second)) cl) c.deref.ensures.value c.top-second.ensures.met) in
-    let most = subst (λ (xs : List ℕ). (l : ℕ) → Contains learned l → (l ≡ lit) ⊎ (get_or xs (l / 2) 0 ≤ second)) c.deref-2.ensures.value
-    (subst (λ (cl : List ℕ). (l : ℕ) → Contains cl l → (l ≡ lit) ⊎ (get_or c.deref-2.result.now (l / 2) 0 ≤ second)) c.deref.ensures.value c.top-second.ensures.most) in
+    let met = subst (λ (cl : List ℕ). (second ≡ 0) ⊎ Any (λ l. (l ≢ lit) × (get_or t.at.items (l / 2) 0 ≡ second)) cl) c.deref.ensures.value c.top-second.ensures.met in
+    let most = subst (λ (cl : List ℕ). (l : ℕ) → Contains cl l → (l ≡ lit) ⊎ (get_or t.at.items (l / 2) 0 ≤ second)) c.deref.ensures.value c.top-second.ensures.most in
     let le = second_le vars s.db t.lits.items t.at.items start c.args.limit c.args.i learned c.args.hints.items lit second t.placed is c.requires.limit lit_is met in
     let level : ℕ = c.level_below-cut.result in
-    let within : level ≤ length t.starts.items = subst (λ (xs : List ℕ). level ≤ length xs) c.deref-3.ensures.value c.level_below-cut.ensures.within in
-    let below : 0 < level → get_or t.starts.items (level - 1) 0 < second = subst (λ (xs : List ℕ). 0 < level → get_or xs (level - 1) 0 < second) c.deref-3.ensures.value c.level_below-cut.ensures.below in
-    let above : level < length t.starts.items → second ≤ get_or t.starts.items level 0 = subst (λ (xs : List ℕ). level < length xs → second ≤ get_or xs level 0) c.deref-3.ensures.value c.level_below-cut.ensures.above in
+    let within : level ≤ length t.starts.items = c.level_below-cut.ensures.within in
+    let below : 0 < level → get_or t.starts.items (level - 1) 0 < second = c.level_below-cut.ensures.below in
+    let above : level < length t.starts.items → second ≤ get_or t.starts.items level 0 = c.level_below-cut.ensures.above in
     let lt = cut_below t.reasons.items t.starts.items c.args.level level second t.levels c.requires.level.0 c.requires.level.1 within le below in
     let room : level < length t.starts.items = omega (arith, lt, c.requires.level.1) in
     let cut : ℕ = get_or t.starts.items level 0 in
     let opens = t.levels.each level room in
     let cut_le : cut ≤ length t.lits.items = omega (arith, opens.0, t.same) in
-    let db : c.add.new.self ≡ s.db ++ learned ∷ [] = c.in_ok-add.ensures.ok ∙ ap (λ (cl : List ℕ). s.db ++ cl ∷ []) c.deref-4.ensures.value in
+    let db : c.add.new.self ≡ s.db ++ learned ∷ [] = c.in_ok-add.ensures.ok ∙ ap (λ (cl : List ℕ). s.db ++ cl ∷ []) c.deref-2.ensures.value in
     let n : c.len-number.result ≡ length (s.db ++ learned ∷ []) = c.len-number.ensures ∙ ap (λ (d : List (List ℕ)). length d) db in
     let number : ℕ = c.len-number.result in
     let line : Line = record { literals = c.args.learned; hints = c.args.hints } in

@@ -4,7 +4,7 @@ use Rattle.std.proofs.lemmas.List.Elements.{All-append}
 use Rattle.std.specs.List.{All}
 use Rattle.sat_core.specs.declared.logs.Line.{Line}
 use Rattle.sat_core.specs.declared.solving.Solver.{Solver}
-use Rattle.sat_core.specs.Derivations.{AreWithin}
+use Rattle.cnf_store.specs.Codes.{AreWithin}
 use Rattle.sat_core.specs.Logged.{AllFollow, clauses_of}
 use Rattle.sat_core.specs.Solving.{Keeps}
 use Rattle.sat_core.proofs.solving.decide.Goals as goal

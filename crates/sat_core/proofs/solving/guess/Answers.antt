@@ -1,8 +1,8 @@
 use Rattle.std.proofs.Common.{arith, ◌<◌, ◌++◌, ◌∷◌, [], ℕ, List, sym, ◌∙◌, subst}
-use Rattle.sat_core.specs.Trail.{AreReasoned, IsPlaced}
-use Rattle.sat_core.specs.Rank.{rank}
-use Rattle.sat_core.proofs.Upkeep.{are_reasoned_push, has_room}
-use Rattle.sat_core.proofs.Ranks.{rank_push}
+use Rattle.sat_trail.specs.Trail.{AreReasoned, IsPlaced}
+use Rattle.sat_trail.specs.Rank.{rank}
+use Rattle.sat_trail.proofs.Upkeep.{are_reasoned_push, has_room}
+use Rattle.sat_trail.proofs.Ranks.{rank_push}
 use Rattle.sat_core.proofs.solving.guess.Goals as goal
 
 pub returns : goal.returns

@@ -1,7 +1,7 @@
 use Rattle.std.proofs.Common.{arith, ◌≡◌, ◌≢◌, ◌≤◌, ◌<◌, ◌-◌, ◌/◌, ℕ, List, length, get_or, sym, ◌∙◌, subst, ◌⊎◌}
 use Rattle.std.specs.List.{Any, Contains}
-use Rattle.sat_core.specs.Derivations.{clause_at, neg}
-use Rattle.sat_core.specs.Trail.{IsWrong}
+use Rattle.cnf_store.specs.Codes.{clause_at, neg}
+use Rattle.sat_trail.specs.Trail.{IsWrong}
 use Rattle.sat_core.specs.Analysis.{StandsFrom}
 use Rattle.std.proofs.lemmas.List.{get_or_default}
 use Rattle.sat_core.proofs.Concluding.{wrong_below, top_stands}
@@ -11,29 +11,25 @@ pub refute-requires-clause-wrong : goal.refute-requires-clause-wrong
 refute-requires-clause-wrong c =
     let t = c.args.s.now.trail in
     let clause : List ℕ = clause_at c.args.s.now.db c.args.conflict in
-    let most = subst (λ (xs : List ℕ). (l : ℕ) → Contains clause l → (l ≡ 4294967295) ⊎ (get_or xs (l / 2) 0 ≤ c.top-from.result)) c.deref.ensures.value
-    (subst (λ (cl : List ℕ). (l : ℕ) → Contains cl l → (l ≡ 4294967295) ⊎ (get_or c.deref.result.now (l / 2) 0 ≤ c.top-from.result)) c.get.ensures c.top-from.ensures.most) in
+    let most = subst (λ (cl : List ℕ). (l : ℕ) → Contains cl l → (l ≡ 4294967295) ⊎ (get_or t.at.items (l / 2) 0 ≤ c.top-from.result)) c.get.ensures c.top-from.ensures.most in
     wrong_below (length t.at.items) t.lits.items t.at.items clause c.top-from.result t.placed t.few most c.requires.wrong
 
 pub learn-requires-clause-wrong : goal.learn-requires-clause-wrong
 learn-requires-clause-wrong c =
     let t = c.args.s.now.trail in
     let clause : List ℕ = clause_at c.args.s.now.db c.args.conflict in
-    let most = subst (λ (xs : List ℕ). (l : ℕ) → Contains clause l → (l ≡ 4294967295) ⊎ (get_or xs (l / 2) 0 ≤ c.top-from.result)) c.deref.ensures.value
-    (subst (λ (cl : List ℕ). (l : ℕ) → Contains cl l → (l ≡ 4294967295) ⊎ (get_or c.deref.result.now (l / 2) 0 ≤ c.top-from.result)) c.get.ensures c.top-from.ensures.most) in
-    subst (λ (xs : List ℕ). IsWrong xs c.top-from.result clause) (sym c.deref-3.ensures.value)
+    let most = subst (λ (cl : List ℕ). (l : ℕ) → Contains cl l → (l ≡ 4294967295) ⊎ (get_or t.at.items (l / 2) 0 ≤ c.top-from.result)) c.get.ensures c.top-from.ensures.most in
+    subst (λ (xs : List ℕ). IsWrong xs c.top-from.result clause) (sym c.deref.ensures.value)
     (wrong_below (length t.at.items) t.lits.items t.at.items clause c.top-from.result t.placed t.few most c.requires.wrong)
 
 pub learn-requires-clause-top : goal.learn-requires-clause-top
 learn-requires-clause-top c =
     let t = c.args.s.now.trail in
     let clause : List ℕ = clause_at c.args.s.now.db c.args.conflict in
-    let met = subst (λ (xs : List ℕ). (c.top-from.result ≡ 0) ⊎ Any (λ l. (l ≢ 4294967295) × (get_or xs (l / 2) 0 ≡ c.top-from.result)) clause) c.deref.ensures.value
-    (subst (λ (cl : List ℕ). (c.top-from.result ≡ 0) ⊎ Any (λ l. (l ≢ 4294967295) × (get_or c.deref.result.now (l / 2) 0 ≡ c.top-from.result)) cl) c.get.ensures c.top-from.ensures.met) in
-    let starts = c.deref-2.ensures.value in
+    let met = subst (λ (cl : List ℕ). (c.top-from.result ≡ 0) ⊎ Any (λ l. (l ≢ 4294967295) × (get_or t.at.items (l / 2) 0 ≡ c.top-from.result)) cl) c.get.ensures c.top-from.ensures.met in
     let pos : 0 < c.level_below-level.result = omega (arith, c.if-level-eq0.false) in
-    let below : get_or t.starts.items (c.level_below-level.result - 1) 0 < c.top-from.result = subst (λ (xs : List ℕ). get_or xs (c.level_below-level.result - 1) 0 < c.top-from.result) starts (c.level_below-level.ensures.below pos) in
-    let within : c.level_below-level.result ≤ length t.starts.items = subst (λ (xs : List ℕ). c.level_below-level.result ≤ length xs) starts c.level_below-level.ensures.within in
+    let below : get_or t.starts.items (c.level_below-level.result - 1) 0 < c.top-from.result = c.level_below-level.ensures.below pos in
+    let within : c.level_below-level.result ≤ length t.starts.items = c.level_below-level.ensures.within in
     let start : c.index-start.result.now ≡ get_or t.starts.items (c.level_below-level.result - 1) 0 = c.index-start.ensures ∙ get_or_default t.starts.items (c.level_below-level.result - 1) c.index-start.result.now 0 (omega arith) in
-    subst (λ (xs : List ℕ). Any (λ m. StandsFrom xs c.index-start.result.now c.top-from.result (neg m)) clause) (sym c.deref-3.ensures.value)
+    subst (λ (xs : List ℕ). Any (λ m. StandsFrom xs c.index-start.result.now c.top-from.result (neg m)) clause) (sym c.deref.ensures.value)
     (top_stands (length t.at.items) t.lits.items t.at.items clause c.top-from.result c.index-start.result.now t.placed (omega arith) met c.requires.wrong)

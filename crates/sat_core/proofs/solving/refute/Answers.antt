@@ -1,8 +1,8 @@
 use Rattle.std.proofs.Common.{arith, ◌≡◌, ◌<◌, ◌++◌, ◌∷◌, [], ℕ, List, get_or, sym, ◌∙◌, ap, subst}
 use Rattle.sat_core.specs.declared.logs.Line.{Line}
 use Rattle.sat_core.specs.Logged.{IsRefuted}
-use Rattle.sat_core.specs.Derivations.{clause_at}
-use Rattle.sat_core.specs.Trail.{IsWrong}
+use Rattle.cnf_store.specs.Codes.{clause_at}
+use Rattle.sat_trail.specs.Trail.{IsWrong}
 use Rattle.sat_core.proofs.Concluding.{refuted}
 use Rattle.sat_core.proofs.solving.refute.Goals as goal
 

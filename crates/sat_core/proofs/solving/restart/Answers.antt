@@ -1,6 +1,6 @@
 use Rattle.std.proofs.Common.{arith, ◌∙◌, ℕ, List, take, get_or, sym, subst}
-use Rattle.sat_core.specs.Trail.{AreReasoned}
-use Rattle.sat_core.proofs.Upkeep.{are_reasoned_take}
+use Rattle.sat_trail.specs.Trail.{AreReasoned}
+use Rattle.sat_trail.proofs.Upkeep.{are_reasoned_take}
 use Rattle.sat_core.proofs.solving.restart.Goals as goal
 
 pub returns-in_ok-release_from : goal.returns-in_ok-release_from

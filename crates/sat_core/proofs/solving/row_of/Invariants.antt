@@ -1,5 +1,5 @@
 use Rattle.std.proofs.Common.{◌≡◌, ◌<◌, ◌/◌, ◌%◌, ◌==◌, ℕ, false, length, get_or}
-use Rattle.sat_core.specs.Trail.{StandsBelow}
+use Rattle.sat_trail.specs.Trail.{StandsBelow}
 use Rattle.sat_core.proofs.solving.row_of.Given as goal
 
 abbrev pub invariant-loop-v : goal.invariant-loop-v

@@ -1,11 +1,11 @@
 use Rattle.std.proofs.Common.{arith, ◌≡◌, ◌<◌, ◌+◌, ◌-◌, ◌*◌, ◌^◌, ℕ, List, length, ◌∙◌, ap, sym, subst}
 use Rattle.sat_core.specs.declared.solving.Gone.{Gone}
-use Rattle.sat_core.specs.declared.trail.Trail.{Trail}
+use Rattle.sat_trail.specs.declared.trail.Trail.{Trail}
 use Rattle.sat_core.specs.declared.solving.Outcome.{Outcome}
 use Rattle.sat_core.specs.declared.solving.Outcome.TheVariants.{Sat, Unsat}
 use Rattle.sat_core.specs.Solving.{HasGone, IsOutcome, IsRowOf, Standing}
-use Rattle.sat_core.specs.Rank.{rank}
-use Rattle.sat_core.proofs.Ranks.{rank_below}
+use Rattle.sat_trail.specs.Rank.{rank}
+use Rattle.sat_trail.proofs.Ranks.{rank_below}
 use Rattle.sat_core.proofs.Deriving.{accepted_none}
 use Rattle.sat_core.proofs.Concluding.{standing_satisfies}
 use Rattle.sat_core.proofs.solving.search.Goals as goal

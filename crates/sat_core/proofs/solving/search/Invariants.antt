@@ -1,6 +1,6 @@
 use Rattle.std.proofs.Common.{◌-◌, ◌+◌, ◌*◌, ◌^◌}
 use Rattle.sat_core.specs.Solving.{Keeps}
-use Rattle.sat_core.specs.Rank.{rank}
+use Rattle.sat_trail.specs.Rank.{rank}
 use Rattle.sat_core.proofs.solving.search.Given as goal
 
 abbrev pub invariant-steps : goal.invariant-steps
