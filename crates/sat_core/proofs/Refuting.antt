@@ -1,5 +1,5 @@
 -- What the hints refute while analysis goes down the trail, and the clause that it comes to.
-use Rattle.std.proofs.Common.{◌≡◌, ◌≢◌, ◌≤◌, ◌<◌, ◌+◌, ◌-◌, ◌*◌, ◌/◌, ℕ, zero, suc, List, [], ◌∷◌, ◌++◌, map, set, length, get_or, arith, sym, ◌∙◌, ap, subst, refl, ◌⊎◌, inl, inr, ⊎_elim, Bool, true, false, get_or-set_same, get_or-set_other, reverse}
+use Rattle.std.proofs.Common.{◌≡◌, ◌≢◌, ◌≤◌, ◌<◌, ◌+◌, ◌-◌, ◌/◌, ℕ, zero, suc, List, [], ◌∷◌, ◌++◌, map, set, length, get_or, arith, sym, ◌∙◌, ap, subst, refl, ◌⊎◌, inl, inr, ⊎_elim, Bool, true, false, get_or-set_same, get_or-set_other, reverse}
 use Rattle.std.proofs.lemmas.Bool.{cases_eq, cases_lt, false≢true}
 use Rattle.std.proofs.lemmas.List.Elements.{Contains-append_left, Contains-push, Contains-push_cases}
 use Rattle.std.proofs.lemmas.List.{get_or-reverse, length-reverse, length-set}
@@ -7,7 +7,7 @@ use Rattle.std.specs.List.{All, Contains}
 use Rattle.sat_core.specs.declared.analysis.Marked.{Marked}
 use Rattle.cnf_store.specs.Codes.{neg, clause_at}
 use Rattle.sat_core.specs.Derivations.{Refutes, LeavesOnly}
-use Rattle.sat_trail.specs.Trail.{StandsBelow, IsPlaced, Reasoned}
+use Rattle.sat_trail.specs.Trail.{IsPlaced, Reasoned}
 use Rattle.sat_core.specs.Analysis.{IsMarked, StandsOpen, Ready, open_below, AddsMarks, State, AreResolved, AreKept, IsLearned, StandsFrom, AreKnown}
 use Rattle.sat_trail.proofs.Placing.{same_place}
 use Rattle.cnf_store.proofs.Lits.{neg_neg, neg_var, neg_injective}

@@ -3,7 +3,7 @@ use Rattle.std.specs.Prelude.{◌≡◌, ◌≤◌, ◌<◌, ◌+◌, ℕ, zero,
 use Rattle.std.specs.Prelude.{nat_le}
 use Rattle.std.specs.List.{All, Contains}
 use Rattle.sat_core.specs.declared.analysis.Marked.{Marked}
-use Rattle.cnf_store.specs.Codes.{neg, clause_at}
+use Rattle.cnf_store.specs.Codes.{neg}
 use Rattle.sat_core.specs.Derivations.{Refutes}
 use Rattle.sat_trail.specs.Trail.{StandsBelow}
 

@@ -1,5 +1,5 @@
 -- What a look at the front of a clause tells, and which clause stands where.
-use Rattle.std.proofs.Common.{◌≡◌, ◌≤◌, ◌<◌, ◌+◌, ◌-◌, ◌/◌, ℕ, List, [], take, length, get_or, arith, ap, refl, ◌⊎◌, inl, inr, Option, Some, None, Bool, true, false, subst}
+use Rattle.std.proofs.Common.{◌≡◌, ◌≤◌, ◌<◌, ◌+◌, ◌-◌, ◌/◌, ℕ, List, [], take, length, get_or, arith, ap, refl, ◌⊎◌, inl, inr, Option, Some, None, Bool, subst}
 use Rattle.std.proofs.lemmas.List.{take_all}
 use Rattle.std.proofs.lemmas.List.Elements.{All-more, All-weaker, Contains-get_or}
 use Rattle.std.specs.Prelude.{if◌then◌else◌}
@@ -29,11 +29,6 @@ so_far_free lits at clause i lt free w = (
   All-more (λ m. (m ≡ get_or clause i 0) ⊎ StandsBelow lits (length lits) (neg m)) clause i 0 lt
       (All-weaker (λ m. StandsBelow lits (length lits) (neg m)) (λ m. (m ≡ get_or clause i 0) ⊎ StandsBelow lits (length lits) (neg m)) (λ m h. inr h) (take i clause) w) (inl refl),
 )
-
--- this one, which is free, met once or more
-pub so_far_other : (lits at clause : List ℕ) (i other : ℕ) (has : Bool) → i < length clause → get_or clause i 0 ≡ other → get_or at (get_or clause i 0 / 2) 0 ≡ 0 → SoFar lits at clause (take i clause) (met has other) → SoFar lits at clause (take (i + 1) clause) (Some other)
-so_far_other lits at clause i other true lt e free s = (s.0, s.1, All-more (λ m. (m ≡ other) ⊎ StandsBelow lits (length lits) (neg m)) clause i 0 lt s.2 (inl e))
-so_far_other lits at clause i other false lt e free s = subst (λ (u : ℕ). SoFar lits at clause (take (i + 1) clause) (Some u)) e (so_far_free lits at clause i lt free s)
 
 -- the front is the whole clause
 pub so_far_all : (lits at clause : List ℕ) (i : ℕ) (unit : Option ℕ) → length clause ≤ i → SoFar lits at clause (take i clause) unit → SoFar lits at clause clause unit

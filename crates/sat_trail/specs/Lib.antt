@@ -1,4 +1,3 @@
-pub mod Implying
 pub mod Laws
 pub mod Looking
 pub mod Rank

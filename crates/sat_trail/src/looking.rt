@@ -3,7 +3,6 @@
 ghost use Rattle.std.specs.Prelude.{◌≡◌, ◌<◌, ◌*◌, ℕ, IfSome, IfNone, length, slice_index, true};
 ghost use Rattle.std.specs.List.{All};
 ghost use Rattle.cnf_store.specs.Codes.{AreWithin};
-ghost use Rattle.sat_trail.specs.Implying.{IsImplied};
 ghost use Rattle.sat_trail.specs.Looking.{IsFound, IsLook};
 
 use crate::trail::Trail;
@@ -30,17 +29,6 @@ pub enum Look {
     Quiet,
 }
 
-/// What a clause says of one of its literals.
-#[derive(Clone, Copy, PartialEq, Eq)]
-pub enum Implied {
-    /// It is free, and all others are false.
-    Unit,
-    /// All literals are false, this one too.
-    Wrong,
-    /// Some literal is true, or another one is free.
-    Neither,
-}
-
 impl Trail {
     /// Looks at a clause.
     pub fn inspect(&self, clause: &[u32]) -> Found
@@ -62,27 +50,6 @@ impl Trail {
             Some(lit) => Found::Unit(lit),
             None => Found::Wrong,
         }
-    }
-
-    /// Looks whether a clause implies this literal, or is false. The look ends at the first other literal that isn't false.
-    pub fn implies(&self, clause: &[u32], other: u32) -> Implied
-        requires within { All (λ l. l < 2 * length self.now.at.items) clause.now }
-        ensures { IsImplied self.now.lits.items self.now.at.items clause.now other result }
-    {
-        let mut has = false;
-        for lit in clause {
-            match self.value(*lit) {
-                Value::False => {}
-                Value::True => return Implied::Neither,
-                Value::Free => {
-                    if *lit != other {
-                        return Implied::Neither;
-                    }
-                    has = true;
-                }
-            }
-        }
-        if has { Implied::Unit } else { Implied::Wrong }
     }
 
     /// Looks at all clauses.
@@ -119,7 +86,7 @@ impl Trail {
 
 #[cfg(test)]
 mod tests {
-    use super::{Found, Implied, Look};
+    use super::{Found, Look};
     use crate::trail::Trail;
     use cnf_store::{Arena, Clauses, Joined};
     use std::test::Fail;
@@ -158,23 +125,20 @@ mod tests {
         }
     }
 
-    // Whether this is what a clause is, and what it says of a literal.
-    fn looks(trail: &Trail, clause: &[u32], found: Found, other: u32, implied: Implied) -> bool {
-        is_within(trail, clause)
-            && trail.inspect(clause) == found
-            && trail.implies(clause, other) == implied
+    // Whether this is what a clause is.
+    fn looks(trail: &Trail, clause: &[u32], found: Found) -> bool {
+        is_within(trail, clause) && trail.inspect(clause) == found
     }
 
     #[test]
     fn a_clause_is_what_its_literals_are(rt: HostRuntime) -> Result<(), Fail> {
         let mut trail = Trail::new(rt.alloc(), 4)?;
         decide(&mut trail, &[0, 3]);
-        assert!(rt; looks(&trail, &[], Found::Wrong, 0, Implied::Wrong));
-        assert!(rt; looks(&trail, &[1, 2], Found::Wrong, 2, Implied::Wrong));
-        assert!(rt; looks(&trail, &[1, 4, 2], Found::Unit(4), 4, Implied::Unit));
-        assert!(rt; looks(&trail, &[1, 4, 2], Found::Unit(4), 1, Implied::Neither));
-        assert!(rt; looks(&trail, &[4, 1, 6], Found::Open, 4, Implied::Neither));
-        assert!(rt; looks(&trail, &[1, 0], Found::Holds, 0, Implied::Neither));
+        assert!(rt; looks(&trail, &[], Found::Wrong));
+        assert!(rt; looks(&trail, &[1, 2], Found::Wrong));
+        assert!(rt; looks(&trail, &[1, 4, 2], Found::Unit(4)));
+        assert!(rt; looks(&trail, &[4, 1, 6], Found::Open));
+        assert!(rt; looks(&trail, &[1, 0], Found::Holds));
         assert!(rt;
             is_within(&trail, &[1, 2]) && trail.top(&[1, 2], 9) == 2 && trail.top(&[1, 2], 2) == 1
         );

@@ -1,9 +1,6 @@
-use Rattle.std.proofs.Common.{arith, ◌<◌, ℕ, List, length, get_or, sym, subst, ◌⊎◌, get_or}
-use Rattle.std.specs.List.{All}
-use Rattle.cnf_store.specs.Codes.{clause_at, AreWithin}
+use Rattle.std.proofs.Common.{arith, ◌<◌, ℕ, length, get_or, sym, subst, get_or}
+use Rattle.cnf_store.specs.Codes.{AreWithin}
 use Rattle.sat_core.specs.Logged.{clauses_of}
-use Rattle.sat_trail.specs.Trail.{IsWrong}
-use Rattle.sat_trail.specs.Looking.{IsTrueIn, IsOpenIn}
 use Rattle.sat_core.specs.Solving.{Standing}
 use Rattle.sat_core.proofs.Concluding.{all_stand, standing_front}
 use Rattle.sat_core.proofs.solving.check_all.Goals as goal
