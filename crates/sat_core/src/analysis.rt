@@ -299,7 +299,7 @@ fn drop_or_keep(
     ensures state { IfOk result (λ n. State db.now lits.now seen.new 0 hints.new.items i n) }
     ensures kept { OnOk result (AreKept lits.now seen.new start first i learned.new.items) }
 {
-    if reasons[i] > 0 && minimiser.follows(db, lits, reasons, at, seen, i)? {
+    if reasons[i] > 0 && minimiser.follows(db, reasons, at, seen, i)? {
         return Ok(resolve(db, lits, reasons, at, 0, i, seen, hints, count)?);
     }
     let kept = complement(lits[i]);
