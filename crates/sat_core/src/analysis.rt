@@ -10,8 +10,8 @@ ghost use Rattle.sat_core.specs.Derivations.{Refutes};
 ghost use Rattle.sat_trail.specs.Trail.{StandsBelow, IsPlaced, AreReasoned, Reasoned};
 ghost use Rattle.sat_core.specs.Analysis.{IsMarked, Ready, Marks, AddsMarks, State, AreResolved, AreKept, IsLearned, StandsFrom, AreKnown};
 
-use crate::minimising::Minimiser;
 use cnf_store::Clauses;
+use sat_guide::Minimiser;
 use sat_trail::complement;
 use std::alloc::AllocError;
 

@@ -10,7 +10,6 @@ mod analysis;
 mod answer;
 mod edge;
 mod logs;
-mod minimising;
 mod ready;
 mod solving;
 mod watching;

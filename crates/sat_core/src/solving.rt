@@ -12,10 +12,9 @@ ghost use Rattle.sat_trail.specs.Rank.{rank};
 
 use crate::analysis::{learn, learn_nothing};
 use crate::logs::Line;
-use crate::minimising::Minimiser;
 use crate::watching::{propagate, read_units};
 use cnf_store::{Arena, Clauses, Joined};
-use sat_guide::{Guide, Order, Pace, Uses};
+use sat_guide::{Guide, Minimiser, Order, Pace, Uses};
 use sat_trail::{Look, Trail, complement};
 use std::alloc::{AllocError, Global};
 

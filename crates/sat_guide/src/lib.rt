@@ -1,5 +1,6 @@
 //! What guides the search of a solver that learns clauses: which clauses to look at when a literal falls, which variable to
-//! decide next and how, when to restart, and which learned clauses to go on watching.
+//! decide next and how, which literals a learned clause can do without, when to restart, and which learned clauses to go on
+//! watching.
 //!
 //! The design is MiniSat's (Eén and Sörensson, SAT 2003): two watched literals with blocking literals, a heap of variables by
 //! activity, saved phases, Luby's restarts. All of it is advice: a solver reads again what it is led to, so no fact rests on
@@ -9,6 +10,7 @@
 mod cone;
 mod guide;
 mod hints;
+mod minimising;
 mod ordering;
 mod pace;
 #[cfg(test)]
@@ -18,6 +20,7 @@ mod watches;
 
 pub use guide::Guide;
 pub use hints::Hints;
+pub use minimising::Minimiser;
 pub use ordering::Order;
 pub use pace::Pace;
 pub use uses::Uses;

@@ -1,4 +1,4 @@
-use Rattle.sat_core.proofs.minimising.Minimiser.follows.Given as goal
+use Rattle.sat_guide.proofs.minimising.Minimiser.follows.Given as goal
 
 abbrev pub decreases-search : goal.decreases-search
 decreases-search l = l.left
