@@ -1,7 +1,10 @@
+ghost use Rattle.cnf_store.specs.Clauses.{AreLiterals};
+
 use super::{DimacsError, DimacsFault, DimacsKind, read_dimacs, solve_text};
+use cnf_store::Cnf;
 use log_check::check;
 use sat_core::{Answer, solve};
-use std::alloc::Global;
+use std::alloc::{AllocError, Global};
 use std::test::Fail;
 
 // The first fault of a text.
@@ -14,14 +17,81 @@ fn fault_of(alloc: Global, text: &[u8]) -> Option<DimacsFault> {
 
 // Whether a text has an answer, and where there is a log the checker accepts it.
 fn is_answered(alloc: Global, text: &[u8], satisfiable: bool) -> bool {
-    let Ok(formula) = read_dimacs(alloc, text) else {
-        return false;
-    };
-    match solve(alloc, &formula) {
-        Ok(Answer::Sat(row)) => satisfiable && row.len() == formula.vars(),
-        Ok(Answer::Unsat(log)) => !satisfiable && check(alloc, &formula, &log) == Ok(true),
+    match read_dimacs(alloc, text) {
+        Ok(formula) => is_decided(alloc, &formula, satisfiable),
         Err(_) => false,
     }
+}
+
+// The same of a formula.
+fn is_decided(alloc: Global, formula: &Cnf, satisfiable: bool) -> bool {
+    match solve(alloc, formula) {
+        Ok(Answer::Sat(row)) => satisfiable && row.len() == formula.vars(),
+        Ok(Answer::Unsat(log)) => !satisfiable && check(alloc, formula, &log) == Ok(true),
+        Err(_) => false,
+    }
+}
+
+// Whether all of these are literals of so many variables.
+fn are_literals(vars: u32, clause: &[i32]) -> bool
+    ensures { result ≡ true → AreLiterals vars clause.now }
+{
+    for lit in clause {
+        if *lit == 0 || lit.unsigned_abs() > vars {
+            return false;
+        }
+    }
+    true
+}
+
+// Adds a clause of the formula's variables.
+fn add(formula: &mut Cnf, clause: &[i32]) -> Result<(), AllocError> {
+    if are_literals(formula.vars(), clause) {
+        formula.add(clause)?;
+    }
+    Ok(())
+}
+
+// The variable that says that a pigeon sits in a hole.
+fn sits(pigeon: u32, hole: u32, holes: u32) -> i32 {
+    let var = pigeon.wrapping_mul(holes).wrapping_add(hole).wrapping_add(1);
+    i32::try_from(var).unwrap_or(0)
+}
+
+// A pigeon sits in some hole.
+fn seat(alloc: Global, formula: &mut Cnf, pigeon: u32, holes: u32) -> Result<(), AllocError> {
+    let mut clause = Vec::new(alloc);
+    for hole in 0..holes {
+        clause.push(sits(pigeon, hole, holes))?;
+    }
+    add(formula, &clause)
+}
+
+// Two pigeons don't sit in the same hole.
+fn part(formula: &mut Cnf, one: u32, other: u32, holes: u32) -> Result<(), AllocError> {
+    for hole in 0..holes {
+        let first = sits(one, hole, holes).wrapping_neg();
+        let second = sits(other, hole, holes).wrapping_neg();
+        add(formula, &[first, second])?;
+    }
+    Ok(())
+}
+
+// One pigeon more than so many holes, each in a hole of its own.
+fn pigeonhole(alloc: Global, holes: u32) -> Result<Cnf, AllocError> {
+    let mut formula = Cnf::new(alloc, 42)?;
+    let pigeons = holes.saturating_add(1);
+    for pigeon in 0..pigeons {
+        seat(alloc, &mut formula, pigeon, holes)?;
+    }
+    for pair in 0..pigeons.saturating_mul(pigeons) {
+        let one = pair % pigeons;
+        let other = pair / pigeons;
+        if one < other {
+            part(&mut formula, one, other, holes)?;
+        }
+    }
+    Ok(formula)
 }
 
 // Whether this is written of a text.
@@ -64,6 +134,15 @@ fn formulas_with_known_answers(rt: HostRuntime) -> Result<(), Fail> {
             b"p cnf 3 6\n1 2 0\n-1 -2 0\n2 3 0\n-2 -3 0\n1 -3 0\n-1 3 0\n".as_slice(),
             true,
         ),
+        // chains of sums: an odd sum of three, and one that is odd and even
+        (
+            b"p cnf 5 9\n-4 1 2 0\n-4 -1 -2 0\n4 -1 2 0\n4 1 -2 0\n-5 4 3 0\n-5 -4 -3 0\n5 -4 3 0\n5 4 -3 0\n5 0\n".as_slice(),
+            true,
+        ),
+        (
+            b"p cnf 4 8\n1 2 -4 0\n1 -2 4 0\n-1 2 4 0\n-1 -2 -4 0\n1 2 4 0\n1 -2 -4 0\n-1 2 -4 0\n-1 -2 4 0\n".as_slice(),
+            false,
+        ),
         // three pigeons in two holes
         (
             b"p cnf 6 9\n1 2 0\n3 4 0\n5 6 0\n-1 -3 0\n-1 -5 0\n-3 -5 0\n-2 -4 0\n-2 -6 0\n-4 -6 0\n".as_slice(),
@@ -77,16 +156,11 @@ fn formulas_with_known_answers(rt: HostRuntime) -> Result<(), Fail> {
 }
 
 #[test]
-fn pigeons_in_three_holes(rt: HostRuntime) -> Result<(), Fail> {
-    let sits = b"p cnf 12 22\nc four pigeons\n1 2 3 0 4 5 6 0 7 8 9 0\n10 11 12 0\n".as_slice();
-    let holes = b"-1 -4 0 -1 -7 0 -1 -10 0 -4 -7 0 -4 -10 0 -7 -10 0\n".as_slice();
-    let more =
-        b"-2 -5 0 -2 -8 0 -2 -11 0 -5 -8 0 -5 -11 0 -8 -11 0\n-3 -6 0 -3 -9 0 -3 -12 0 -6 -9 0 -6 -12 0 -9 -12 0".as_slice();
-    let mut text = Vec::new(rt.alloc());
-    text.extend_from_slice(sits)?;
-    text.extend_from_slice(holes)?;
-    text.extend_from_slice(more)?;
-    assert!(rt; is_answered(rt.alloc(), text.as_slice(), false));
+fn one_pigeon_too_many_for_three_to_six_holes(rt: HostRuntime) -> Result<(), Fail> {
+    for (holes, clauses) in [(3, 22), (4, 45), (5, 81), (6, 133)] {
+        let formula = pigeonhole(rt.alloc(), holes)?;
+        assert!(rt; formula.len() == clauses && is_decided(rt.alloc(), &formula, false));
+    }
     Ok(())
 }
 
