@@ -3,7 +3,7 @@ use Rattle.std.specs.Prelude.{◌≡◌, ◌≤◌, ◌<◌, ◌+◌, ℕ, zero,
 use Rattle.std.specs.Prelude.{nat_le}
 use Rattle.std.specs.List.{All, Contains}
 use Rattle.sat_core.specs.declared.analysis.Marked.{Marked}
-use Rattle.sat_core.specs.Derivations.{neg, clause_at, Refutes}
+use Rattle.sat_core.specs.Derivations.{neg, Refutes}
 use Rattle.sat_core.specs.Trail.{StandsBelow}
 
 -- the literal's complement stands on the trail below i, at a marked place

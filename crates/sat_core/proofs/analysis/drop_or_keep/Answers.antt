@@ -1,4 +1,4 @@
-use Rattle.std.proofs.Common.{arith, ◌≡◌, ◌+◌, ◌++◌, ◌∷◌, [], ℕ, List, get_or, reverse, sym, ◌∙◌, ap, subst}
+use Rattle.std.proofs.Common.{arith, ◌+◌, ◌++◌, ◌∷◌, [], ℕ, get_or, reverse, sym, ◌∙◌, ap, subst}
 use Rattle.sat_core.specs.Derivations.{neg}
 use Rattle.sat_core.specs.Analysis.{AreKept}
 use Rattle.sat_core.proofs.Marking.{marks_step}

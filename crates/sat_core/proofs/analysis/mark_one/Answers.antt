@@ -1,4 +1,4 @@
-use Rattle.std.proofs.Common.{arith, ◌-◌, ◌/◌, ℕ, true, length, get_or, set}
+use Rattle.std.proofs.Common.{arith, ◌-◌, ◌/◌, true, length, get_or, set}
 use Rattle.sat_core.proofs.Marking.{marks_low, marks_open, open_le}
 use Rattle.sat_core.proofs.Refuting.{place_of}
 use Rattle.sat_core.proofs.analysis.mark_one.Goals as goal
