@@ -162,3 +162,7 @@ all_marked_more clause skip lits a b limit i lt all more here =
     All-more (λ m. (m ≡ skip) ⊎ IsMarked lits b limit m) clause i 0 lt
     (All-weaker (λ m. (m ≡ skip) ⊎ IsMarked lits a limit m) (λ m. (m ≡ skip) ⊎ IsMarked lits b limit m) (λ m h. ⊎_elim (λ (e : m ≡ skip). inl e) (λ (k : IsMarked lits a limit m). inr (marked_along lits a b limit m more k)) h) (take i clause) all)
     here
+
+-- a place past the first is one past the one before
+pub back_one : (n : ℕ) → 0 < n → n ≡ n - 1 + 1
+back_one n h = omega arith

@@ -1,7 +1,7 @@
 use Rattle.std.proofs.Common.{arith, ◌≡◌, ◌<◌, ◌+◌, ◌-◌, ◌++◌, ◌∷◌, [], ℕ, List, length, get_or, reverse, refl, sym, ◌∙◌, ap, subst}
 use Rattle.cnf_store.specs.Codes.{clause_at, neg}
 use Rattle.sat_core.specs.Analysis.{IsMarked, State, AreResolved, AreKept, IsLearned}
-use Rattle.sat_core.proofs.Marking.{past_start, marks_step, marks_below}
+use Rattle.sat_core.proofs.Marking.{back_one, past_start, marks_step, marks_below}
 use Rattle.sat_core.proofs.Refuting.{some_counted, state_skip, resolved_more, ready_down, kept_first, learned_is}
 use Rattle.sat_core.proofs.analysis.learn.Goals as goal
 
@@ -18,9 +18,6 @@ down-init c =
       limit = omega arith;
     }
 
-back : (n : ℕ) → 0 < n → n ≡ n - 1 + 1
-back n h = omega arith
-
 pub overflow_sub-i : goal.overflow_sub-i
 overflow_sub-i c = let v = c.down.invariant in let p = past_start c.down.seen c.args.start c.down.i c.down.count.above v.state.marks.above v.some in omega arith
 
@@ -34,7 +31,7 @@ pub resolve-requires-clause-state : goal.resolve-requires-clause-state
 resolve-requires-clause-state c =
     let v = c.down.invariant in
     let p = past_start c.down.seen c.args.start c.down.i c.down.count.above v.state.marks.above v.some in
-    subst (λ (i : ℕ). State c.args.db.now c.args.lits.now c.down.seen c.args.start c.down.hints.items i c.down.count) (back c.down.i (omega arith)) v.state
+    subst (λ (i : ℕ). State c.args.db.now c.args.lits.now c.down.seen c.args.start c.down.hints.items i c.down.count) (back_one c.down.i (omega arith)) v.state
 
 pub resolve-requires-clause-implied : goal.resolve-requires-clause-implied
 resolve-requires-clause-implied c =
@@ -60,7 +57,7 @@ down-preserved-then-seen-i c =
     let p = past_start c.down.seen c.args.start c.down.i c.down.count.above v.state.marks.above v.some in
     record {
       state = e.state;
-      resolved = resolved_more c.down.seen c.resolve.new.seen (c.down.i - 1) (subst (AreResolved c.down.seen) (back c.down.i (omega arith)) v.resolved) e.past e.resolved;
+      resolved = resolved_more c.down.seen c.resolve.new.seen (c.down.i - 1) (subst (AreResolved c.down.seen) (back_one c.down.i (omega arith)) v.resolved) e.past e.resolved;
       some = omega (arith, e.grows, v.some);
       limit = omega (arith, v.limit);
     }
@@ -71,8 +68,8 @@ down-preserved c =
     let p = past_start c.down.seen c.args.start c.down.i c.down.count.above v.state.marks.above v.some in
     record {
       state = state_skip c.args.db.now c.args.lits.now c.down.seen c.args.start c.down.hints.items (c.down.i - 1) c.down.count c.if-seen-i.false
-          (subst (λ (i : ℕ). State c.args.db.now c.args.lits.now c.down.seen c.args.start c.down.hints.items i c.down.count) (back c.down.i (omega arith)) v.state);
-      resolved = resolved_more c.down.seen c.down.seen (c.down.i - 1) (subst (AreResolved c.down.seen) (back c.down.i (omega arith)) v.resolved) (λ q lt. refl) c.if-seen-i.false;
+          (subst (λ (i : ℕ). State c.args.db.now c.args.lits.now c.down.seen c.args.start c.down.hints.items i c.down.count) (back_one c.down.i (omega arith)) v.state);
+      resolved = resolved_more c.down.seen c.down.seen (c.down.i - 1) (subst (AreResolved c.down.seen) (back_one c.down.i (omega arith)) v.resolved) (λ q lt. refl) c.if-seen-i.false;
       some = v.some;
       limit = omega (arith, v.limit);
     }
@@ -98,11 +95,11 @@ pub minimise-requires-clause-kept : goal.minimise-requires-clause-kept
 minimise-requires-clause-kept c =
     let v = c.down.invariant in
     let p = past_start c.down.seen c.args.start c.down.i c.down.count.above v.state.marks.above v.some in
-    let s = subst (λ (i : ℕ). State c.args.db.now c.args.lits.now c.down.seen c.args.start c.down.hints.items i c.down.count) (back c.down.i (omega arith)) v.state in
+    let s = subst (λ (i : ℕ). State c.args.db.now c.args.lits.now c.down.seen c.args.start c.down.hints.items i c.down.count) (back_one c.down.i (omega arith)) v.state in
     let m = marks_step c.down.seen c.args.start (c.down.i - 1) c.down.count (omega arith) c.if-seen-i.true s.marks in
     let one = c.if-count-eq1.true in
     subst (AreKept c.args.lits.now c.down.seen c.args.start (c.down.i - 1) c.args.start) (sym c.requires.learned)
-    (kept_first c.args.lits.now c.down.seen c.args.start (c.down.i - 1) (omega arith) c.if-seen-i.true (omega (arith, m.1.above)) (subst (AreResolved c.down.seen) (back c.down.i (omega arith)) v.resolved))
+    (kept_first c.args.lits.now c.down.seen c.args.start (c.down.i - 1) (omega arith) c.if-seen-i.true (omega (arith, m.1.above)) (subst (AreResolved c.down.seen) (back_one c.down.i (omega arith)) v.resolved))
 
 pub returns : goal.returns
 returns c =

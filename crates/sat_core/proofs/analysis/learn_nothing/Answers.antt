@@ -1,12 +1,9 @@
-use Rattle.std.proofs.Common.{arith, ◌≡◌, ◌<◌, ◌+◌, ◌-◌, [], ℕ, reverse, refl, sym, subst}
+use Rattle.std.proofs.Common.{arith, ◌-◌, [], ℕ, reverse, refl, sym, subst}
 use Rattle.sat_core.specs.Derivations.{Refutes}
 use Rattle.sat_core.specs.Analysis.{AreKnown, State, AreResolved}
-use Rattle.sat_core.proofs.Marking.{past_start}
+use Rattle.sat_core.proofs.Marking.{back_one, past_start}
 use Rattle.sat_core.proofs.Refuting.{state_skip, resolved_more, root_refutes, known_reverse}
 use Rattle.sat_core.proofs.analysis.learn_nothing.Goals as goal
-
-back : (n : ℕ) → 0 < n → n ≡ n - 1 + 1
-back n h = omega arith
 
 pub overflow_sub-i : goal.overflow_sub-i
 overflow_sub-i c = let v = c.down.invariant in let p = past_start c.down.seen 0 c.down.i c.down.count.above v.state.marks.above (omega arith) in omega arith
@@ -18,7 +15,7 @@ pub resolve-requires-clause-state : goal.resolve-requires-clause-state
 resolve-requires-clause-state c =
     let v = c.down.invariant in
     let p = past_start c.down.seen 0 c.down.i c.down.count.above v.state.marks.above (omega arith) in
-    subst (λ (i : ℕ). State c.args.db.now c.args.lits.now c.down.seen 0 c.down.hints.items i c.down.count) (back c.down.i (omega arith)) v.state
+    subst (λ (i : ℕ). State c.args.db.now c.args.lits.now c.down.seen 0 c.down.hints.items i c.down.count) (back_one c.down.i (omega arith)) v.state
 
 pub resolve-requires-clause-place : goal.resolve-requires-clause-place
 resolve-requires-clause-place c =
@@ -44,7 +41,7 @@ down-preserved-then-seen-i c =
     let p = past_start c.down.seen 0 c.down.i c.down.count.above v.state.marks.above (omega arith) in
     record {
       state = c.in_ok-count-2.ensures.state;
-      resolved = resolved_more c.down.seen c.resolve.new.seen (c.down.i - 1) (subst (AreResolved c.down.seen) (back c.down.i (omega arith)) v.resolved) c.resolve.ensures.past c.resolve.ensures.resolved;
+      resolved = resolved_more c.down.seen c.resolve.new.seen (c.down.i - 1) (subst (AreResolved c.down.seen) (back_one c.down.i (omega arith)) v.resolved) c.resolve.ensures.past c.resolve.ensures.resolved;
       limit = omega (arith, v.limit);
     }
 
@@ -54,8 +51,8 @@ down-preserved c =
     let p = past_start c.down.seen 0 c.down.i c.down.count.above v.state.marks.above (omega arith) in
     record {
       state = state_skip c.args.db.now c.args.lits.now c.down.seen 0 c.down.hints.items (c.down.i - 1) c.down.count c.if-seen-i.false
-          (subst (λ (i : ℕ). State c.args.db.now c.args.lits.now c.down.seen 0 c.down.hints.items i c.down.count) (back c.down.i (omega arith)) v.state);
-      resolved = resolved_more c.down.seen c.down.seen (c.down.i - 1) (subst (AreResolved c.down.seen) (back c.down.i (omega arith)) v.resolved) (λ q lt. refl) c.if-seen-i.false;
+          (subst (λ (i : ℕ). State c.args.db.now c.args.lits.now c.down.seen 0 c.down.hints.items i c.down.count) (back_one c.down.i (omega arith)) v.state);
+      resolved = resolved_more c.down.seen c.down.seen (c.down.i - 1) (subst (AreResolved c.down.seen) (back_one c.down.i (omega arith)) v.resolved) (λ q lt. refl) c.if-seen-i.false;
       limit = omega (arith, v.limit);
     }
 
