@@ -31,7 +31,7 @@ IsFound lits at clause Open = IsOpenIn at clause
 IsFound lits at clause (Unit l) = IsUnit lits at clause l
 IsFound lits at clause Wrong = IsWrong lits (length lits) clause
 
--- the first clause that implies a literal or is false; with none, each has a literal that is true or free
+-- a clause that implies a literal, or one that is false; with neither, each has a literal that is true or free
 abbrev pub IsLook : List (List ℕ) → List ℕ → List ℕ → Look → Type 0
 IsLook clauses lits at (Implied l r) = (0 < r) × (r ≤ length clauses) × IsUnit lits at (clause_at clauses r) l
 IsLook clauses lits at (Conflict r) = (0 < r) × (r ≤ length clauses) × IsWrong lits (length lits) (clause_at clauses r)

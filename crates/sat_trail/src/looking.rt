@@ -21,11 +21,14 @@ pub enum Found {
     Wrong,
 }
 
-/// What the first clause says that is neither true nor open. Clauses are counted from 1.
+/// What a look at all clauses comes to: it ends at the first that isn't true or open. Clauses are counted from 1.
 #[derive(Clone, Copy, PartialEq, Eq)]
 pub enum Look {
+    /// This literal is implied, by this clause.
     Implied(u32, u64),
+    /// This clause is false.
     Conflict(u64),
+    /// Each clause is true or open.
     Quiet,
 }
 
