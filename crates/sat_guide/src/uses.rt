@@ -34,7 +34,7 @@ impl Uses {
             bump: 1 << 16,
             least: 0,
             watched: 0,
-            room: if first / 3 < 2000 { 2000 } else { first / 3 },
+            room: if first / 3 < 1000 { 1000 } else { first / 3 },
             wait: 100,
             span: 100,
         }

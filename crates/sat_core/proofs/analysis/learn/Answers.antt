@@ -1,4 +1,4 @@
-use Rattle.std.proofs.Common.{arith, ◌≡◌, ◌<◌, ◌+◌, ◌-◌, ◌++◌, ◌∷◌, [], ℕ, List, length, get_or, reverse, refl, sym, ◌∙◌, ap, subst}
+use Rattle.std.proofs.Common.{arith, ◌-◌, ◌++◌, ◌∷◌, [], ℕ, List, length, get_or, reverse, refl, sym, ◌∙◌, ap, subst}
 use Rattle.cnf_store.specs.Codes.{clause_at, neg}
 use Rattle.sat_core.specs.Analysis.{IsMarked, State, AreResolved, AreKept, IsLearned}
 use Rattle.sat_core.proofs.Marking.{back_one, past_start, marks_step, marks_below}
