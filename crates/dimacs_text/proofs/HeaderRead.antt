@@ -1,5 +1,5 @@
 -- Where the header is read, the clauses are those of the lines after it.
-use Rattle.std.proofs.Common.{◌≡◌, ℕ, ◌+◌, Bool, false, List, [], ◌∷◌, length, Option, Some, Result, refl, sym, ap, ◌∙◌, subst}
+use Rattle.std.proofs.Common.{◌≡◌, ℕ, ◌+◌, false, List, [], ◌∷◌, length, Some, Result, refl, sym, ap, ◌∙◌, subst}
 use Rattle.cnf_store.specs.Clauses.{Formula}
 use Rattle.sat_log.specs.Pieces.{pieces, last_of}
 use Rattle.dimacs_text.specs.Words.{header_of}

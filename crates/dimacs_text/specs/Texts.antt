@@ -1,5 +1,5 @@
 -- The formula that a text is, or its first fault, by its lines.
-use Rattle.std.specs.Prelude.{◌≡◌, ℕ, ℤ, ◌+◌, ◌==◌, ◌||◌, Bool, true, false, leb, if◌then◌else◌, List, [], ◌∷◌, ◌++◌, Option, Some, None, Result, Ok, Err, length, unsigned_abs}
+use Rattle.std.specs.Prelude.{◌≡◌, ℕ, ℤ, ◌+◌, ◌==◌, ◌||◌, Bool, leb, if◌then◌else◌, List, [], ◌∷◌, ◌++◌, Option, Some, None, Result, Ok, Err, length, unsigned_abs}
 use Rattle.std.specs.List.{list_all}
 use Rattle.cnf_store.specs.Clauses.{Formula}
 use Rattle.sat_log.specs.Pieces.{pieces, last_of, is_byte}

@@ -1,6 +1,5 @@
 -- The words of a line between spaces, and the header that a line is: `p cnf VARIABLES CLAUSES`.
-use Rattle.std.specs.Prelude.{ℕ, ◌==◌, ◌&&◌, ◌||◌, ◌<◌, Bool, true, false, not, leb, if◌then◌else◌, List, [], ◌∷◌, ◌++◌, Option, Some, None, length, slice_index}
-use Rattle.std.specs.List.{list_all}
+use Rattle.std.specs.Prelude.{ℕ, ◌==◌, ◌&&◌, ◌||◌, Bool, if◌then◌else◌, List, [], ◌∷◌, ◌++◌, Option, Some, None, length, slice_index}
 use Rattle.sat_log.specs.Pieces.{pieces, last_of, is_byte}
 use Rattle.sat_log.specs.Words.{is_digit, number_word}
 use Rattle.dimacs_text.specs.declared.header.Header.{Header}

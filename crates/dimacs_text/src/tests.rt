@@ -1,3 +1,4 @@
+ghost use Rattle.std.specs.Prelude.{◌≡◌, true};
 ghost use Rattle.cnf_store.specs.Clauses.{AreLiterals};
 
 use super::{DimacsError, DimacsFault, DimacsKind, read_dimacs, solve_text};
@@ -54,7 +55,10 @@ fn add(formula: &mut Cnf, clause: &[i32]) -> Result<(), AllocError> {
 
 // The variable that says that a pigeon sits in a hole.
 fn sits(pigeon: u32, hole: u32, holes: u32) -> i32 {
-    let var = pigeon.wrapping_mul(holes).wrapping_add(hole).wrapping_add(1);
+    let var = pigeon
+        .wrapping_mul(holes)
+        .wrapping_add(hole)
+        .wrapping_add(1);
     i32::try_from(var).unwrap_or(0)
 }
 

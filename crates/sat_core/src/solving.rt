@@ -196,9 +196,7 @@ pub fn meet(
     requires wrong { IsWrong s.old.trail.lits.items (length s.old.trail.lits.items) (clause_at s.old.db conflict) }
     ensures { IfOk result (HasGone vars formula.now s.old s.new) }
 {
-    let from = s
-        .trail
-        .top(s.db.get((conflict - 1) as usize), u32::MAX);
+    let from = s.trail.top(s.db.get((conflict - 1) as usize), u32::MAX);
     let level = s.trail.level_below(from);
     if level == 0 {
         return refute(alloc, vars, formula, s, from, conflict);

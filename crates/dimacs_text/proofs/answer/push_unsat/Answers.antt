@@ -1,4 +1,4 @@
-use Rattle.std.proofs.Common.{◌≡◌, ◌+◌, ◌++◌, ◌∙◌, sym, ap, codes}
+use Rattle.std.proofs.Common.{◌+◌, ◌++◌, ◌∙◌, sym, ap, codes}
 use Rattle.dimacs_text.specs.Answers.{lrat_text, unsat_text}
 use Rattle.dimacs_text.proofs.Pieces.{two}
 use Rattle.dimacs_text.proofs.answer.push_unsat.Goals as goal

@@ -1,4 +1,4 @@
-use Rattle.std.proofs.Common.{◌≡◌, ◌+◌, false, length, sym, ◌∙◌, arith}
+use Rattle.std.proofs.Common.{◌≡◌, false, length, sym, ◌∙◌, arith}
 use Rattle.dimacs_text.specs.Words.{header_of}
 use Rattle.dimacs_text.specs.Texts.{text_of, is_passed}
 use Rattle.dimacs_text.proofs.HeaderRead.{header_read}
