@@ -91,7 +91,6 @@ impl Ready {
             &codes,
             learned,
             trail,
-            self.hints.units.as_slice(),
             &mut guide,
         )?;
         work.kept = Some(Kept {

@@ -12,7 +12,7 @@ ghost use Rattle.sat_trail.specs.Rank.{rank};
 
 use crate::analysis::{learn, learn_nothing};
 use crate::logs::Line;
-use crate::watching::{propagate, read_units};
+use crate::watching::{open_up, propagate, read_all_units};
 use cnf_store::{Arena, Clauses, Joined};
 use sat_guide::{Guide, Minimiser, Order, Pace, Uses};
 use sat_trail::{Look, Trail, complement};
@@ -296,6 +296,24 @@ fn step(
 {
     match propagate(alloc, vars, formula, s, guide, from)? {
         Some(number) => meet_at(alloc, vars, formula, s, &mut guide.order, number),
+        None => go_further(alloc, vars, formula, s, guide),
+    }
+}
+
+// Where nothing follows: the variables on which the question doesn't rest, or a decision.
+fn go_further(
+    alloc: Global,
+    vars: usize,
+    formula: &Joined,
+    s: &mut Solver,
+    guide: &mut Guide,
+) -> Result<Gone, AllocError>
+    requires few { vars < 2 ^ 31 }
+    requires keeps { Keeps vars formula.now s.old }
+    ensures { IfOk result (HasGone vars formula.now s.old s.new) }
+{
+    match open_up(alloc, vars, formula, s, guide)? {
+        Some(number) => meet_at(alloc, vars, formula, s, &mut guide.order, number),
         None => match pick(&mut guide.order, &s.trail) {
             Some(var) => guess(vars, formula, s, var, guide.order.phase_of(var)),
             None => check_all(alloc, vars, formula, s, &mut guide.order),
@@ -381,7 +399,7 @@ pub struct Decided {
     pub trail: Trail,
 }
 
-/// Decides on the shared clauses, the first of which are listed as units, and a question's own, in memory that is empty.
+/// Decides on the shared clauses and a question's own, in memory that is empty.
 pub fn decide(
     alloc: Global,
     vars: usize,
@@ -389,7 +407,6 @@ pub fn decide(
     own: &Arena<u32>,
     learned: Arena<u32>,
     trail: Trail,
-    units: &[u32],
     guide: &mut Guide,
 ) -> Result<Decided, AllocError>
     requires few { vars < 2 ^ 31 }
@@ -407,17 +424,15 @@ pub fn decide(
         log: Vec::new(alloc),
         trail,
     };
-    search(alloc, vars, &formula, start, units, guide)
+    search(alloc, vars, &formula, start, guide)
 }
 
-// Whether an assignment satisfies all clauses, with one that does or with a derivation of the empty clause. The first of
-// the clauses have these units.
+// Whether an assignment satisfies all clauses, with one that does or with a derivation of the empty clause.
 fn search(
     alloc: Global,
     vars: usize,
     formula: &Joined,
     start: Solver,
-    units: &[u32],
     guide: &mut Guide,
 ) -> Result<Decided, AllocError>
     requires few { vars < 2 ^ 31 }
@@ -426,8 +441,7 @@ fn search(
 {
     let mut s = start;
     guide.attach(&s.db, &s.trail.lits, &s.trail.at)?;
-    read_units(vars, formula, &mut s, units)?;
-    read_units(vars, formula, &mut s, guide.units.as_slice())?;
+    read_all_units(vars, formula, &mut s, guide)?;
     let mut uses = Uses::new(alloc, formula.len());
     let mut pace = Pace::new();
     let mut restarts: u32 = 0;

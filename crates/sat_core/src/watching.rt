@@ -4,11 +4,11 @@ ghost use Rattle.std.specs.Prelude.{◌≡◌, ◌≤◌, ◌<◌, ◌+◌, ◌^
 ghost use Rattle.cnf_store.specs.Codes.{clause_at};
 ghost use Rattle.sat_core.specs.Solving.{Keeps};
 ghost use Rattle.sat_trail.specs.Looking.{IsFound};
-ghost use Rattle.sat_core.specs.Watching.{HasSwept};
+ghost use Rattle.sat_core.specs.Watching.{Grows, HasSwept};
 
 use crate::solving::{Solver, add_implied};
 use cnf_store::Joined;
-use sat_guide::{Guide, Sweep, Watches};
+use sat_guide::{Guide, Near, Sweep, Watches};
 use sat_trail::{Found, complement};
 use std::alloc::{AllocError, Global};
 
@@ -53,6 +53,7 @@ fn go_along(
     formula: &Joined,
     s: &mut Solver,
     w: &mut Watches,
+    near: &Near,
     sweep: &mut Sweep,
 ) -> Result<Option<usize>, AllocError>
     requires keeps { Keeps vars formula.now s.old }
@@ -60,7 +61,7 @@ fn go_along(
     ensures { IfOk result (HasSwept vars formula.now s.old s.new) }
 {
     for _ in 0..sweep.len() {
-        let Some(number) = w.advance(sweep, &s.trail.values)? else {
+        let Some(number) = w.advance(sweep, &s.trail.values, near)? else {
             return Ok(None);
         };
         let found = settle(vars, formula, s, number)?;
@@ -78,6 +79,7 @@ fn sweep(
     formula: &Joined,
     s: &mut Solver,
     w: &mut Watches,
+    near: &Near,
     fallen: u32,
 ) -> Result<Option<usize>, AllocError>
     requires keeps { Keeps vars formula.now s.old }
@@ -85,7 +87,7 @@ fn sweep(
     ensures { IfOk result (HasSwept vars formula.now s.old s.new) }
 {
     let mut walk = w.begin(alloc, fallen);
-    let found = go_along(vars, formula, s, w, &mut walk)?;
+    let found = go_along(vars, formula, s, w, near, &mut walk)?;
     w.end(walk);
     Ok(found)
 }
@@ -103,11 +105,27 @@ fn sweep_all(
     requires few { vars < 2 ^ 31 }
     ensures { IfOk result (HasSwept vars formula.now s.old s.new) }
 {
-    let found = sweep(alloc, vars, formula, s, &mut guide.shared, fallen)?;
+    let found = sweep(
+        alloc,
+        vars,
+        formula,
+        s,
+        &mut guide.shared,
+        &guide.near,
+        fallen,
+    )?;
     if found.is_some() {
         return Ok(found);
     }
-    sweep(alloc, vars, formula, s, &mut guide.extra, fallen)
+    sweep(
+        alloc,
+        vars,
+        formula,
+        s,
+        &mut guide.extra,
+        &guide.near,
+        fallen,
+    )
 }
 
 /// Takes all that follows from this place of the trail on, or finds a clause that is false.
@@ -135,19 +153,83 @@ pub fn propagate(
     Ok(None)
 }
 
-/// Reads these clauses, counted from 0, and takes what is implied.
-pub fn read_units(
+// Reads these clauses, counted from 0, and takes what is implied of variables to which the search goes.
+fn read_units(
     vars: usize,
     formula: &Joined,
     s: &mut Solver,
+    near: &Near,
     units: &[u32],
 ) -> Result<(), AllocError>
     requires few { vars < 2 ^ 31 }
     requires keeps { Keeps vars formula.now s.old }
-    ensures { OnOk result (Keeps vars formula.now s.new) }
+    ensures { OnOk result (Grows vars formula.now s.old s.new) }
 {
     for unit in units {
-        settle(vars, formula, s, *unit as usize)?;
+        read_unit(vars, formula, s, near, *unit as usize)?;
     }
     Ok(())
+}
+
+// The same of one clause.
+fn read_unit(
+    vars: usize,
+    formula: &Joined,
+    s: &mut Solver,
+    near: &Near,
+    number: usize,
+) -> Result<(), AllocError>
+    requires few { vars < 2 ^ 31 }
+    requires keeps { Keeps vars formula.now s.old }
+    ensures { OnOk result (Grows vars formula.now s.old s.new) }
+{
+    if !is_near(s, near, number) {
+        return Ok(());
+    }
+    settle(vars, formula, s, number)?;
+    Ok(())
+}
+
+// Whether the search goes to the variable of a clause's first literal.
+fn is_near(s: &Solver, near: &Near, number: usize) -> bool {
+    if number >= s.db.len() {
+        return false;
+    }
+    let clause = s.db.get(number);
+    clause.len() == 0 || near.has(clause[0] as usize / 2)
+}
+
+/// Reads the clauses of at most one literal, and takes what is implied.
+pub fn read_all_units(
+    vars: usize,
+    formula: &Joined,
+    s: &mut Solver,
+    guide: &Guide,
+) -> Result<(), AllocError>
+    requires few { vars < 2 ^ 31 }
+    requires keeps { Keeps vars formula.now s.old }
+    ensures { OnOk result (Grows vars formula.now s.old s.new) }
+{
+    read_units(vars, formula, s, &guide.near, guide.shared_units.as_slice())?;
+    read_units(vars, formula, s, &guide.near, guide.units.as_slice())
+}
+
+/// Goes to all variables, where the search kept to those on which the question rests and is done with them: takes all that
+/// then follows, or finds a clause that is false.
+pub fn open_up(
+    alloc: Global,
+    vars: usize,
+    formula: &Joined,
+    s: &mut Solver,
+    guide: &mut Guide,
+) -> Result<Option<usize>, AllocError>
+    requires keeps { Keeps vars formula.now s.old }
+    requires few { vars < 2 ^ 31 }
+    ensures { IfOk result (HasSwept vars formula.now s.old s.new) }
+{
+    if !guide.opens(&s.trail.values) {
+        return Ok(None);
+    }
+    read_all_units(vars, formula, s, guide)?;
+    propagate(alloc, vars, formula, s, guide, 0)
 }

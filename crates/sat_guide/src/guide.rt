@@ -2,11 +2,11 @@
 
 ghost use Rattle.std.specs.Prelude.{◌≡◌, ◌<◌, ◌^◌, []};
 
-use crate::cone::Visits;
+use crate::cone::Near;
 use crate::hints::{Hints, list_units};
 use crate::ordering::Order;
 use crate::watches::Watches;
-use cnf_store::{Arena, Clauses, Joined};
+use cnf_store::{Arena, Clauses, Joined, Value};
 use std::alloc::{AllocError, Global};
 
 /// The watches of the clauses that questions share; those of the question's own and of what it learned; the order in which
@@ -18,9 +18,11 @@ pub struct Guide {
     pub shared: Watches,
     pub extra: Watches,
     pub order: Order,
-    /// The question's clauses of at most one literal, counted from 0.
+    /// The clauses of at most one literal, counted from 0: those that are shared, and the question's own.
+    pub shared_units: Vec<u32>,
     pub units: Vec<u32>,
-    visits: Visits,
+    /// The variables on which the question rests.
+    pub near: Near,
 }
 
 impl Guide {
@@ -39,8 +41,9 @@ impl Guide {
             shared: watched(alloc, vars, clauses)?,
             extra: Watches::new(alloc, vars)?,
             order: Order::new(alloc, vars)?,
+            shared_units: Vec::from_slice(alloc, hints.units.as_slice())?,
             units: Vec::new(alloc),
-            visits: Visits::new(alloc, vars)?,
+            near: Near::new(alloc, vars)?,
         })
     }
 
@@ -67,7 +70,22 @@ impl Guide {
         self.order.begin(self.vars, vars)?;
         self.units.clear();
         list_units(own, first, &mut self.units)?;
-        hints.cone.lead(own, &mut self.order, &mut self.visits)
+        hints.cone.lead(own, &mut self.order, &mut self.near)
+    }
+
+    /// Whether the search, which kept to the variables on which the question rests, is done with them and is to go to all.
+    pub fn opens(&mut self, values: &[Value]) -> bool {
+        if self.near.is_whole() {
+            return false;
+        }
+        let goes = match self.order.peek(values) {
+            Some(var) => !self.near.has(var),
+            None => true,
+        };
+        if goes {
+            self.near.open();
+        }
+        goes
     }
 
     /// Watches the clauses that aren't watched yet.

@@ -18,6 +18,7 @@ mod tests;
 mod uses;
 mod watches;
 
+pub use cone::Near;
 pub use guide::Guide;
 pub use hints::Hints;
 pub use minimising::Minimiser;

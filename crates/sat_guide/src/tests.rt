@@ -1,5 +1,6 @@
 //! What no contract says: that the advice is the one that is meant.
 
+use crate::cone::Near;
 use crate::ordering::Order;
 use crate::pace::Pace;
 use crate::uses::Uses;
@@ -16,7 +17,9 @@ fn first_due(
     values: &[Value],
 ) -> Result<Option<usize>, AllocError> {
     let mut sweep = watches.begin(alloc, fallen);
-    let due = watches.advance(&mut sweep, values)?;
+    let mut near = Near::new(alloc, 0)?;
+    near.open();
+    let due = watches.advance(&mut sweep, values, &near)?;
     watches.end(sweep);
     Ok(due)
 }

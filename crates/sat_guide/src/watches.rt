@@ -4,6 +4,7 @@
 
 ghost use Rattle.std.specs.Prelude.{◌<◌, ◌^◌};
 
+use crate::cone::Near;
 use crate::uses::Uses;
 use cnf_store::{Clauses, Value};
 use std::alloc::{AllocError, Global};
@@ -186,11 +187,12 @@ impl Watches {
     }
 
     /// Goes on to the next clause that seems to have at most one literal left that isn't false, and answers its number, counted
-    /// from 0. The clauses before it are satisfied, or come to watch another literal.
+    /// from 0. The clauses before it are satisfied, come to watch another literal, or have one left to which the search doesn't go.
     pub fn advance(
         &mut self,
         sweep: &mut Sweep,
         values: &[Value],
+        near: &Near,
     ) -> Result<Option<usize>, AllocError> {
         for i in sweep.next..sweep.row.len() {
             let watch = sweep.get(i);
@@ -211,6 +213,9 @@ impl Watches {
                         place: watch.place,
                         blocker: lit,
                     });
+                    if is_passed(lit, values, near) {
+                        continue;
+                    }
                     sweep.next = i.saturating_add(1);
                     return Ok(Some(self.base.saturating_add(after as usize)));
                 }
@@ -256,6 +261,11 @@ impl Watches {
             self.rows[fallen as usize] = row;
         }
     }
+}
+
+// Whether a literal that seems implied is of a variable to which the search doesn't go.
+fn is_passed(lit: u32, values: &[Value], near: &Near) -> bool {
+    !near.has(lit as usize / 2) && value_in(values, lit) == Value::Free
 }
 
 // Looks at the literals of a clause of which one of the first two fell.

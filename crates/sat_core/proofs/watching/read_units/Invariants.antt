@@ -1,5 +1,5 @@
-use Rattle.sat_core.specs.Solving.{Keeps}
+use Rattle.sat_core.specs.Watching.{Grows}
 use Rattle.sat_core.proofs.watching.read_units.Given as goal
 
 abbrev pub invariant-loop-unit : goal.invariant-loop-unit
-invariant-loop-unit l = Keeps l.vars l.formula l.s
+invariant-loop-unit l = Grows l.vars l.formula l.initial.s l.s
