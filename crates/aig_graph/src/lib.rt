@@ -8,8 +8,6 @@ mod fault;
 mod levels;
 mod netlist;
 mod order;
-#[cfg(test)]
-mod tests;
 mod undefined;
 
 pub use builder::NetBuilder;

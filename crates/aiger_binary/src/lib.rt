@@ -7,7 +7,5 @@
 mod body;
 mod gate;
 mod latch;
-#[cfg(test)]
-mod tests;
 
 pub use body::{read_binary, spelled_binary_is_read};

@@ -8,6 +8,3 @@ mod laws;
 
 pub use file::read_netlist;
 pub use laws::{one_reading, spelled_files, written_binary_is_read, written_text_is_read};
-
-#[cfg(test)]
-mod tests;

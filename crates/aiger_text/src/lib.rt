@@ -4,8 +4,6 @@
 
 mod body;
 mod section;
-#[cfg(test)]
-mod tests;
 
 pub use body::{read_text, spelled_text_is_read};
 pub use section::{error_of, literal, read_items};

@@ -6,8 +6,6 @@
 mod claim;
 mod differ;
 mod seat;
-#[cfg(test)]
-mod tests;
 mod view;
 mod word;
 

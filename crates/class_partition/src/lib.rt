@@ -7,8 +7,6 @@ mod laws;
 mod least;
 mod parts;
 mod split;
-#[cfg(test)]
-mod tests;
 
 pub use classes::{Classes, Needed};
 pub use laws::{refinement, split_function, verdict_of_classes};

@@ -5,8 +5,6 @@
 
 mod lines;
 mod names;
-#[cfg(test)]
-mod tests;
 
 pub use lines::push_class_lines;
 pub use names::push_name;

@@ -1,6 +1,6 @@
 //! A formula in conjunctive normal form. Variables and clauses are counted from 1, as in DIMACS.
 
-ghost use Rattle.std.specs.Prelude.{◌≡◌, ◌≤◌, ◌<◌, ◌+◌, ◌-◌, ◌++◌, ◌∷◌, [], ℕ, ℤ, List, IsOk, IfOk, OnOk, OnErr, length, take, slice_index_or};
+ghost use Rattle.std.specs.Prelude.{◌≡◌, ◌≤◌, ◌<◌, ◌+◌, ◌-◌, ◌++◌, ◌∷◌, [], IsOk, IfOk, OnOk, OnErr, length, take, slice_index_or};
 ghost use Rattle.cnf_store.specs.Clauses.{Formula, IsFormula, AreLiterals, AreClauses};
 
 use crate::arena::Arena;
@@ -99,26 +99,5 @@ fn keep(clauses: &mut Arena<i32>, n: u64)
 {
     if n < clauses.len() as u64 {
         clauses.cut(n as usize);
-    }
-}
-
-#[cfg(test)]
-mod tests {
-    use super::Cnf;
-    use std::test::Fail;
-
-    #[test]
-    fn clauses_stand_in_order_until_they_are_cut(rt: HostRuntime) -> Result<(), Fail> {
-        let mut cnf = Cnf::new(rt.alloc(), 2)?;
-        cnf.add(&[1, -2])?;
-        cnf.add(&[])?;
-        cnf.add_vars(1);
-        cnf.add(&[-1, 2, 1])?;
-        assert!(rt; cnf.vars() == 3 && cnf.len() == 3);
-        if cnf.len() == 3 {
-            assert!(rt; cnf.clause(1) == [1, -2].as_slice() && cnf.clause(2).len() == 0);
-            assert!(rt; cnf.clause(3) == [-1, 2, 1].as_slice());
-        }
-        Ok(())
     }
 }

@@ -9,6 +9,3 @@ mod taken;
 
 pub use command::{Check, Command, Demo, Replay, Unread, Verify};
 pub use read::read_words;
-
-#[cfg(test)]
-mod tests;

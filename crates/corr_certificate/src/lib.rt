@@ -8,12 +8,11 @@
 mod fault;
 mod laws;
 mod reading;
-#[cfg(test)]
-mod tests;
 mod trimming;
 mod writing;
 
 pub use fault::{CertFault, CertKind, Checked};
 pub use laws::{greatest_classes_are_stable, one_answer, supported_outputs_agree};
 pub use reading::verify;
+pub use trimming::trimmed;
 pub use writing::write_cert;

@@ -6,6 +6,3 @@ mod copying;
 mod making;
 
 pub use making::make_demo;
-
-#[cfg(test)]
-mod tests;

@@ -14,6 +14,3 @@ pub use answer::{Solution, solve_formula};
 pub use fault::{DimacsError, DimacsFault, DimacsKind};
 pub use read::read_dimacs;
 pub use solving::solve_text;
-
-#[cfg(test)]
-mod tests;

@@ -7,8 +7,6 @@ mod base;
 mod difference;
 mod earliest;
 mod rows;
-#[cfg(test)]
-mod tests;
 
 pub use base::{Base, base_holds};
 pub use difference::{Diff, least_difference};

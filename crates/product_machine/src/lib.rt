@@ -10,8 +10,6 @@ mod product;
 mod rows;
 mod same;
 mod signals;
-#[cfg(test)]
-mod tests;
 mod walk;
 
 pub use cell::Cell;

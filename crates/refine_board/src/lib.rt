@@ -13,8 +13,6 @@ mod marks;
 mod run;
 mod same;
 mod steps;
-#[cfg(test)]
-mod tests;
 
 pub use answers::{Cut, Kept, Offer, Take};
 pub use board::Board;

@@ -22,6 +22,3 @@ pub use read::read_step;
 pub use text::{LogError, LogFault, read_log, write_log};
 pub use words::{literal_word, number_word};
 pub use write::write_step;
-
-#[cfg(test)]
-mod tests;

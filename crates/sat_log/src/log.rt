@@ -1,6 +1,6 @@
 //! A log: the lines of a derivation, their clauses in one row and their hints in another.
 
-ghost use Rattle.std.specs.Prelude.{◌≡◌, ◌≤◌, ◌<◌, ◌++◌, ◌∷◌, [], ℕ, ℤ, List, OnOk, OnErr, length, slice_index_or};
+ghost use Rattle.std.specs.Prelude.{◌≡◌, ◌<◌, ◌++◌, ◌∷◌, [], List, OnOk, OnErr, length};
 ghost use Rattle.std.specs.List.{All};
 ghost use Rattle.cnf_store.specs.Clauses.{AreLiterals};
 ghost use Rattle.sat_log.specs.Derivations.{Line, line_at};
@@ -98,24 +98,5 @@ fn add_both(
             clauses.cut(before);
             Err(e)
         }
-    }
-}
-
-#[cfg(test)]
-mod tests {
-    use super::Log;
-    use std::test::Fail;
-
-    #[test]
-    fn lines_stand_in_order(rt: HostRuntime) -> Result<(), Fail> {
-        let mut log = Log::new(rt.alloc());
-        log.add(&[-2], &[3, 8])?;
-        log.add(&[], &[12])?;
-        assert!(rt; log.len() == 2);
-        if log.len() == 2 {
-            assert!(rt; log.clause(0) == [-2].as_slice() && log.hints(0) == [3, 8].as_slice());
-            assert!(rt; log.clause(1).len() == 0 && log.hints(1) == [12].as_slice());
-        }
-        Ok(())
     }
 }

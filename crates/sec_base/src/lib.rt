@@ -26,6 +26,3 @@ pub use shelf::Shelf;
 pub use sink::Sink;
 pub use sure::{SureShelf, SureSink};
 pub use text::write_text;
-
-#[cfg(test)]
-mod tests;

@@ -4,5 +4,4 @@ pub mod Tallied
 pub mod LeftOut
 pub mod Verdicts
 pub mod Pairing
-pub mod Trying
 pub mod Unfailing

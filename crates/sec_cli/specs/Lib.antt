@@ -5,4 +5,3 @@ pub mod Answers
 pub mod Endings
 pub mod Reports
 pub mod Runs
-pub mod Plain

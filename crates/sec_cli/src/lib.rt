@@ -9,10 +9,6 @@ mod demo;
 mod ending;
 mod lines;
 mod loading;
-#[cfg(test)]
-mod meeting;
-#[cfg(test)]
-mod plain;
 mod replaying;
 mod telling;
 mod texts;
@@ -20,6 +16,3 @@ mod verifying;
 
 pub use command::{Report, run};
 pub use ending::{Answer, Refusal, Side, Unpaired};
-
-#[cfg(test)]
-mod tests;

@@ -8,8 +8,6 @@ mod kernel;
 mod sim;
 mod start;
 mod stimulus;
-#[cfg(test)]
-mod tests;
 
 pub use sim::SimState;
 pub use stimulus::Stimulus;

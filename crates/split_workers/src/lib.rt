@@ -8,8 +8,6 @@ mod found;
 mod report;
 mod running;
 mod seat;
-#[cfg(test)]
-mod tests;
 mod worker;
 
 pub use report::{WorkReport, reports_of};

@@ -13,6 +13,3 @@ pub use fault::{TraceError, TraceFault, TraceKind};
 pub use read::{Trace, read_trace};
 pub use replay::first_difference;
 pub use write::write_trace;
-
-#[cfg(test)]
-mod tests;

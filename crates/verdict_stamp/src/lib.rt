@@ -6,8 +6,6 @@
 mod opening;
 mod prover;
 mod refine;
-#[cfg(test)]
-mod tests;
 mod vector;
 mod verdict;
 mod version;

@@ -1,0 +1,483 @@
+//! Boards of worked pairs, turn by turn, and schedules drawn from seeds.
+ghost use Rattle.std.specs.Prelude.{◌≡◌, ◌≤◌, ◌<◌, ◌+◌, ◌^◌, IfOk, IfSome};
+ghost use Rattle.refine_board.specs.Schedules.{opened};
+ghost use Rattle.refine_board.specs.Running.{IsAsked};
+ghost use Rattle.verdict_stamp.specs.Published.{IsStampOf};
+
+use crate::circuits::{DELAY, LATE_DELAY, NOTHING, TOGGLE, pair_of};
+use class_partition::Classes;
+use product_machine::Product;
+use refine_board::{Board, Journal, Offer, Run, Step, Take, finish, replay};
+use std::alloc::{AllocError, Global};
+use std::marker::Brand;
+use std::sync::Wait;
+use std::sync::ledger::Blank;
+use std::test::Fail;
+use verdict_stamp::{Proof, Prover, Stamp, Version, Versions, greatest_classes};
+
+// An offer, and the prover of its version.
+#[derive(Drop)]
+struct Work<'v, 'p, L: Run> {
+    offer: Offer<'p, L>,
+    stamp: Stamp<'p>,
+    prover: Prover<'v, 'p>,
+    ghost asked: { IsAsked prover offer.pair },
+    ghost stamped: { IsStampOf L.list stamp prover },
+}
+
+// Asks for a pair.
+fn ask<'v, 'p, L: Run>(
+    rt: &impl Wait,
+    alloc: Global,
+    board: &mut Board<'v, 'p, L>,
+    party: u32,
+) -> Result<Option<Work<'v, 'p, L>>, AllocError>
+    requires party { party < L.workers + 1 }
+{
+    match board.take(rt, party)? {
+        Take::Offer(offer) => {
+            let stamp = offer.stamp().copy();
+            let prover = Prover::new(alloc, board.versions().at(&stamp))?;
+            Ok(Some(Work {
+                offer,
+                stamp,
+                prover,
+            }))
+        }
+        _ => Ok(None),
+    }
+}
+
+// Proves the pair, and hands the answer in.
+fn answer<'v, 'p, L: Run>(
+    alloc: Global,
+    board: &mut Board<'v, 'p, L>,
+    work: Work<'v, 'p, L>,
+) -> Result<(), AllocError> {
+    let Work {
+        offer,
+        stamp,
+        prover,
+    } = work;
+    match prover.prove(alloc, offer.pair())? {
+        Proof::Holds(verdict) => {
+            board.keep(offer, &verdict, &stamp);
+        }
+        Proof::Splits(vector) => {
+            board.split(offer, vector);
+        }
+    }
+    Ok(())
+}
+
+// Asks, and keeps the work, if there is some.
+fn ask_turn<'v, 'p, L: Run>(
+    rt: &impl Wait,
+    alloc: Global,
+    board: &mut Board<'v, 'p, L>,
+    works: &mut Vec<Work<'v, 'p, L>>,
+    party: u32,
+) -> Result<(), AllocError>
+    requires party { party < L.workers + 1 }
+{
+    if let Some(work) = ask(rt, alloc, board, party)? {
+        works.push(work)?;
+    }
+    Ok(())
+}
+
+// Answers the work at an index, if there is so much.
+fn answer_turn<'v, 'p, L: Run>(
+    alloc: Global,
+    board: &mut Board<'v, 'p, L>,
+    works: &mut Vec<Work<'v, 'p, L>>,
+    at: usize,
+) -> Result<(), AllocError> {
+    if at < works.len() {
+        let work = works.remove(at);
+        answer(alloc, board, work)?;
+    }
+    Ok(())
+}
+
+// Two workers: both ask, the first answers and then the second; the first asks, then the second, and the first answers; the
+// second asks.
+fn two_turns<'v, 'p, L: Run>(
+    rt: &impl Wait,
+    alloc: Global,
+    board: &mut Board<'v, 'p, L>,
+    works: &mut Vec<Work<'v, 'p, L>>,
+) -> Result<(), AllocError>
+    requires workers { 2 ≤ L.workers }
+{
+    ask_turn(rt, alloc, board, works, 0)?;
+    ask_turn(rt, alloc, board, works, 1)?;
+    answer_turn(alloc, board, works, 0)?;
+    answer_turn(alloc, board, works, 0)?;
+    ask_turn(rt, alloc, board, works, 0)?;
+    ask_turn(rt, alloc, board, works, 1)?;
+    answer_turn(alloc, board, works, 0)?;
+    ask_turn(rt, alloc, board, works, 1)
+}
+
+fn two_workers<'v, 'p, L: Run>(
+    rt: &impl Wait,
+    alloc: Global,
+    blank: Blank,
+    versions: &'v Versions<'p>,
+    first: Version<'p>,
+    workers: u32,
+) -> Result<(Version<'p>, Journal), AllocError>
+    requires name { (blank.name ≡ L.name) × (blank.parts ≡ L.parts) }
+    requires parts { 2 ^ 62 ≤ L.parts }
+    requires run { (first.pair ≡ L.pair) × (first.k ≡ L.k) }
+    requires workers { (workers ≡ L.workers) × (2 ≤ L.workers) }
+    requires opening { L.opening ≡ opened L.pair L.workers first.classes first.number }
+    requires list { L.list ≡ versions.now }
+{
+    let mut works = Vec::new(alloc);
+    let mut board = Board::<'v, 'p, L>::open(alloc, blank, versions, first, workers)?;
+    let played = two_turns(rt, alloc, &mut board, &mut works);
+    let end = board.close();
+    played?;
+    Ok(end)
+}
+
+// The index of a party's work, or 9 for none.
+fn index_of<L: Run>(works: &Vec<Work<'_, '_, L>>, party: u32) -> usize {
+    for work in works {
+        if work.offer.party() == party {
+            return work.stamp.index();
+        }
+    }
+    9
+}
+
+// Both ask, and answer; the first asks again. The indices of the three offers.
+fn three_indices<'v, 'p, L: Run>(
+    rt: &impl Wait,
+    alloc: Global,
+    board: &mut Board<'v, 'p, L>,
+    works: &mut Vec<Work<'v, 'p, L>>,
+) -> Result<[usize; 3], AllocError>
+    requires workers { 2 ≤ L.workers }
+{
+    ask_turn(rt, alloc, board, works, 0)?;
+    ask_turn(rt, alloc, board, works, 1)?;
+    let first = index_of(works, 0);
+    let second = index_of(works, 1);
+    answer_turn(alloc, board, works, 0)?;
+    answer_turn(alloc, board, works, 0)?;
+    ask_turn(rt, alloc, board, works, 0)?;
+    Ok([first, second, index_of(works, 0)])
+}
+
+fn indices_of_offers<'v, 'p, L: Run>(
+    rt: &impl Wait,
+    alloc: Global,
+    blank: Blank,
+    versions: &'v Versions<'p>,
+    first: Version<'p>,
+    workers: u32,
+) -> Result<[usize; 3], AllocError>
+    requires name { (blank.name ≡ L.name) × (blank.parts ≡ L.parts) }
+    requires parts { 2 ^ 62 ≤ L.parts }
+    requires run { (first.pair ≡ L.pair) × (first.k ≡ L.k) }
+    requires workers { (workers ≡ L.workers) × (2 ≤ L.workers) }
+    requires opening { L.opening ≡ opened L.pair L.workers first.classes first.number }
+    requires list { L.list ≡ versions.now }
+{
+    let mut works = Vec::new(alloc);
+    let mut board = Board::<'v, 'p, L>::open(alloc, blank, versions, first, workers)?;
+    three_indices(rt, alloc, &mut board, &mut works)
+}
+
+fn indices(rt: &impl Wait, alloc: Global, product: &Product) -> Result<[usize; 3], AllocError> {
+    let first = Version::first(alloc, product, 1)?;
+    let versions = Versions::new(alloc)?;
+    indices_of_offers::<Brand>(rt, alloc, Blank::new(1 << 62), &versions, first, 2)
+}
+
+#[test]
+fn offers_have_one_index_until_a_split(rt: HostRuntime) -> Result<(), Fail> {
+    let alloc = rt.alloc();
+    match pair_of(alloc, TOGGLE, TOGGLE) {
+        Ok(product) => assert_eq!(rt; indices(&rt, alloc, &product)?, [0, 0, 1]),
+        Err(_) => assert!(rt; false),
+    }
+    Ok(())
+}
+
+fn word_of(step: &Step) -> &'static str {
+    match step {
+        Step::Offered(_) => "offered",
+        Step::Idle => "idle",
+        Step::Done => "done",
+        Step::Counted(_) => "counted",
+        Step::Stale(_) => "stale",
+        Step::Split(_, _) => "split",
+        Step::Already(_) => "already",
+        Step::Foreign => "foreign",
+        Step::Back(_) => "back",
+    }
+}
+
+// The pair of an entry, or 0 and the number of classes that a split added.
+fn numbers_of(step: &Step) -> [u32; 2] {
+    match step {
+        Step::Offered(pair) => [pair.rep, pair.member],
+        Step::Counted(pair) => [pair.rep, pair.member],
+        Step::Stale(pair) => [pair.rep, pair.member],
+        Step::Back(pair) => [pair.rep, pair.member],
+        Step::Split(_, added) => [0, *added],
+        _ => [0, 0],
+    }
+}
+
+// Whether entry i is this one.
+fn is_entry(
+    journal: &Journal,
+    i: u64,
+    worker: u32,
+    call: u64,
+    word: &str,
+    numbers: [u32; 2],
+) -> bool {
+    if i >= journal.len() {
+        return false;
+    }
+    let entry = journal.entry(i);
+    entry.worker == worker
+        && entry.call == call
+        && word_of(&entry.step) == word
+        && numbers_of(&entry.step) == numbers
+}
+
+// What two workers make of a pair, from its first version.
+fn worked<'p>(
+    rt: &impl Wait,
+    alloc: Global,
+    product: &'p Product,
+) -> Result<(Version<'p>, Journal), AllocError> {
+    let first = Version::first(alloc, product, 1)?;
+    let versions = Versions::new(alloc)?;
+    two_workers::<Brand>(rt, alloc, Blank::new(1 << 62), &versions, first, 2)
+}
+
+// Whether the workers split and count the pair of toggles.
+fn toggles_are_counted(
+    rt: &impl Wait,
+    alloc: Global,
+    product: &Product,
+) -> Result<bool, AllocError> {
+    let (version, journal) = worked(rt, alloc, product)?;
+    Ok(
+        version.classes().count() == 2
+            && journal.len() == 8
+            && is_entry(&journal, 0, 0, 0, "offered", [0, 1])
+            && is_entry(&journal, 1, 1, 0, "offered", [0, 2])
+            && is_entry(&journal, 2, 0, 1, "split", [0, 1])
+            && is_entry(&journal, 3, 1, 1, "already", [0, 0])
+            && is_entry(&journal, 4, 0, 2, "offered", [1, 2])
+            && is_entry(&journal, 5, 1, 2, "idle", [0, 0])
+            && is_entry(&journal, 6, 0, 3, "counted", [1, 2])
+            && is_entry(&journal, 7, 1, 3, "done", [0, 0]),
+    )
+}
+
+#[test]
+fn two_workers_split_and_count_a_pair_of_toggles(rt: HostRuntime) -> Result<(), Fail> {
+    let alloc = rt.alloc();
+    match pair_of(alloc, TOGGLE, TOGGLE) {
+        Ok(product) => assert!(rt; toggles_are_counted(&rt, alloc, &product)?),
+        Err(_) => assert!(rt; false),
+    }
+    Ok(())
+}
+
+// Whether the second worker's proof is outdated, and its pair splits under the next version.
+fn proof_is_outdated(rt: &impl Wait, alloc: Global, product: &Product) -> Result<bool, AllocError> {
+    let (_, journal) = worked(rt, alloc, product)?;
+    Ok(
+        is_entry(&journal, 0, 0, 0, "offered", [0, 1])
+            && is_entry(&journal, 1, 1, 0, "offered", [0, 2])
+            && is_entry(&journal, 2, 0, 1, "split", [0, 1])
+            && is_entry(&journal, 3, 1, 1, "stale", [0, 2])
+            && is_entry(&journal, 4, 0, 2, "offered", [0, 2])
+            && journal.len() > 6
+            && word_of(&journal.entry(6).step) == "split",
+    )
+}
+
+#[test]
+fn an_outdated_proof_is_stale_and_its_pair_splits(rt: HostRuntime) -> Result<(), Fail> {
+    let alloc = rt.alloc();
+    match pair_of(alloc, DELAY, LATE_DELAY) {
+        Ok(product) => assert!(rt; proof_is_outdated(&rt, alloc, &product)?),
+        Err(_) => assert!(rt; false),
+    }
+    Ok(())
+}
+
+// Whether each worker is told at once that all is done.
+fn is_done_at_once(rt: &impl Wait, alloc: Global, product: &Product) -> Result<bool, AllocError> {
+    let (version, journal) = worked(rt, alloc, product)?;
+    Ok(version.classes().count() == 1 && is_entry(&journal, 0, 0, 0, "done", [0, 0]))
+}
+
+#[test]
+fn a_pair_with_one_signal_is_done_at_once(rt: HostRuntime) -> Result<(), Fail> {
+    let alloc = rt.alloc();
+    match pair_of(alloc, NOTHING, NOTHING) {
+        Ok(product) => assert!(rt; is_done_at_once(&rt, alloc, &product)?),
+        Err(_) => assert!(rt; false),
+    }
+    Ok(())
+}
+
+// A party of three without work.
+fn idle_party<L: Run>(works: &Vec<Work<'_, '_, L>>) -> u32
+    ensures { result < 3 }
+{
+    for party in 0..2u32 {
+        if works.iter().all(|work| work.offer.party() != party) {
+            return party;
+        }
+    }
+    2
+}
+
+// Whether two partitions are equal.
+fn same_classes(a: &Classes, b: &Classes) -> bool {
+    let n = a.len();
+    n == b.len() && (0..n).all(|p| a.rep(p) == b.rep(p) && a.phase(p) == b.phase(p))
+}
+
+// Whether the replay of the journal has the board's classes.
+fn is_replayed<L: Run>(alloc: Global, board: &Board<'_, '_, L>) -> Result<bool, AllocError> {
+    let classes = replay(alloc, board.opening(), 3, board.journal())?;
+    Ok(same_classes(&classes, board.version().classes()))
+}
+
+// A turn: a party without work asks, or one with work answers. Answers whether the replay of the journal has the board's
+// classes then.
+fn drawn_turn<'v, 'p, L: Run>(
+    rt: &impl Wait,
+    alloc: Global,
+    board: &mut Board<'v, 'p, L>,
+    works: &mut Vec<Work<'v, 'p, L>>,
+    draw: usize,
+) -> Result<bool, AllocError>
+    requires workers { 3 ≤ L.workers }
+{
+    if works.len() < 3 && draw % 2 == 0 {
+        let party = idle_party(works);
+        ask_turn(rt, alloc, board, works, party)?;
+    } else {
+        answer_turn(alloc, board, works, draw / 2 % 3)?;
+    }
+    is_replayed(alloc, board)
+}
+
+// Turns of three workers, drawn from a seed; then their offers are given back, and a fourth party works alone. Answers
+// whether at each turn the replay of the journal had the board's classes.
+fn drawn_turns<'v, 'p, L: Run>(
+    rt: &impl Wait,
+    alloc: Global,
+    board: &mut Board<'v, 'p, L>,
+    works: &mut Vec<Work<'v, 'p, L>>,
+    seed: u64,
+) -> Result<bool, AllocError>
+    requires workers { 3 ≤ L.workers }
+{
+    let mut state = seed;
+    let mut same = true;
+    for _turn in 0..40u32 {
+        state = state
+            .wrapping_mul(6364136223846793005)
+            .wrapping_add(1442695040888963407);
+        if !drawn_turn(rt, alloc, board, works, (state >> 33) as usize)? {
+            same = false;
+        }
+    }
+    for _offer in 0..3u32 {
+        if let Some(work) = works.pop() {
+            board.back(work.offer);
+        }
+    }
+    finish(board, alloc, 3)?;
+    Ok(same)
+}
+
+fn drawn_end<'v, 'p, L: Run>(
+    rt: &impl Wait,
+    alloc: Global,
+    blank: Blank,
+    versions: &'v Versions<'p>,
+    first: Version<'p>,
+    workers: u32,
+    seed: u64,
+) -> Result<(Version<'p>, bool), AllocError>
+    requires name { (blank.name ≡ L.name) × (blank.parts ≡ L.parts) }
+    requires parts { 2 ^ 62 ≤ L.parts }
+    requires run { (first.pair ≡ L.pair) × (first.k ≡ L.k) }
+    requires workers { (workers ≡ L.workers) × (3 ≤ L.workers) }
+    requires opening { L.opening ≡ opened L.pair L.workers first.classes first.number }
+    requires list { L.list ≡ versions.now }
+{
+    let mut works = Vec::new(alloc);
+    let mut board = Board::<'v, 'p, L>::open(alloc, blank, versions, first, workers)?;
+    let played = drawn_turns(rt, alloc, &mut board, &mut works, seed);
+    let (version, _) = board.close();
+    let same = played?;
+    Ok((version, same))
+}
+
+// Whether a drawn schedule of a pair ends at its greatest classes.
+fn ends_at_greatest(
+    rt: &impl Wait,
+    alloc: Global,
+    product: &Product,
+    seed: u64,
+) -> Result<bool, AllocError> {
+    let greatest = greatest_classes(alloc, product, 1)?;
+    let first = Version::first(alloc, product, 1)?;
+    let versions = Versions::new(alloc)?;
+    let (version, same) = drawn_end::<Brand>(
+        rt,
+        alloc,
+        Blank::new(1 << 62),
+        &versions,
+        first,
+        3,
+        seed,
+    )?;
+    Ok(same && same_classes(version.classes(), greatest.classes()))
+}
+
+// The same for four seeds.
+fn end_at_greatest(rt: &impl Wait, alloc: Global, product: &Product) -> Result<bool, AllocError> {
+    for seed in 0..4u64 {
+        if !ends_at_greatest(rt, alloc, product, seed)? {
+            return Ok(false);
+        }
+    }
+    Ok(true)
+}
+
+#[test]
+fn every_drawn_schedule_ends_at_the_greatest_classes(rt: HostRuntime) -> Result<(), Fail> {
+    let alloc = rt.alloc();
+    for (left, right) in [
+        (TOGGLE, TOGGLE),
+        (DELAY, LATE_DELAY),
+        (DELAY, DELAY),
+        (NOTHING, NOTHING),
+    ] {
+        match pair_of(alloc, left, right) {
+            Ok(product) => assert!(rt; end_at_greatest(&rt, alloc, &product)?),
+            Err(_) => assert!(rt; false),
+        }
+    }
+    Ok(())
+}

@@ -1,0 +1,39 @@
+//! The netlists of worked pairs, as AIGER texts.
+use aiger_file::read_netlist;
+use product_machine::{PairFault, Product};
+use std::alloc::Global;
+
+// No signals but the constant, with no output and with one.
+pub(crate) const NOTHING: &str = "aag 0 0 0 0 0\n";
+
+pub(crate) const LOW: &str = "aag 0 0 0 1 0\n0\n";
+
+// A latch that toggles from 0 or from 1, and is shown.
+pub(crate) const TOGGLE: &str = "aag 1 0 1 1 0\n2 3\n2\n";
+
+pub(crate) const TOGGLE_FROM_ONE: &str = "aag 1 0 1 1 0\n2 3 1\n2\n";
+
+// A ring of three latches with a single one, and the product of two of them.
+pub(crate) const RING: &str = "aag 4 0 3 1 1\n2 6 1\n4 2\n6 4\n8\n8 2 4\n";
+
+// The product of two inputs, each delayed by a latch, and delayed by one latch.
+pub(crate) const PRODUCT_OF_LATCHES: &str = "aag 5 2 2 1 1\n2\n4\n6 2\n8 4\n10\n10 6 8\n";
+
+pub(crate) const LATCH_OF_PRODUCT: &str = "aag 4 2 1 1 1\n2\n4\n6 8\n6\n8 2 4\n";
+
+// A latch that keeps the input, plainly, and as the exclusive or of the input and two other latches, of which one keeps the
+// input and one is always set.
+pub(crate) const DELAY: &str = "aag 2 1 1 1 0\n2\n4 2\n4\n";
+
+pub(crate) const LATE_DELAY: &str =
+    "aag 10 1 3 1 6\n2\n4 2\n6 21\n8 1\n6\n10 4 9\n12 5 8\n14 11 13\n16 2 14\n18 3 15\n20 17 19\n";
+
+pub(crate) fn pair_of(alloc: Global, left: &str, right: &str) -> Result<Product, PairFault> {
+    match (
+        read_netlist(alloc, left.as_bytes()),
+        read_netlist(alloc, right.as_bytes()),
+    ) {
+        (Ok(left), Ok(right)) => Product::new(alloc, left, right),
+        _ => Err(PairFault::Memory),
+    }
+}

@@ -1,0 +1,14 @@
+//! Tests of claims, versions, boards and workers.
+//! They stand in a crate of their own, so that each library is proved once.
+#![tactic(auto)]
+
+#[cfg(test)]
+mod boards;
+#[cfg(test)]
+mod circuits;
+#[cfg(test)]
+mod claims;
+#[cfg(test)]
+mod versions;
+#[cfg(test)]
+mod workers;

@@ -1,0 +1,232 @@
+//! The classes of worked pairs, and what proofs answer on the way to them.
+ghost use Rattle.std.specs.Prelude.{◌≡◌};
+
+use crate::circuits::{
+    LATCH_OF_PRODUCT, LOW, PRODUCT_OF_LATCHES, RING, TOGGLE, TOGGLE_FROM_ONE, pair_of,
+};
+use bit_rows::BitRow;
+use class_partition::Classes;
+use product_machine::Product;
+use std::alloc::{AllocError, Global};
+use std::sync::Wait;
+use std::test::Fail;
+use std::thread;
+use std::thread::Threads;
+use verdict_stamp::{Proof, Prover, Version, Versions, greatest_classes};
+
+// The least place of each place's class; 9 for none.
+fn table_of(classes: &Classes) -> [u32; 8] {
+    let mut least = [9; 8];
+    for place in 0..8 {
+        if place < classes.len() {
+            least[place as usize] = classes.rep(place);
+        }
+    }
+    least
+}
+
+#[test]
+fn pairs_have_these_classes(rt: HostRuntime) -> Result<(), Fail> {
+    let alloc = rt.alloc();
+    for (left, right, k, count, least) in [
+        (TOGGLE, TOGGLE, 1, 2, [0, 1, 1, 9, 9, 9, 9, 9]),
+        (TOGGLE, TOGGLE_FROM_ONE, 1, 2, [0, 1, 1, 9, 9, 9, 9, 9]),
+        (TOGGLE, LOW, 2, 2, [0, 1, 9, 9, 9, 9, 9, 9]),
+        // the ring needs three frames
+        (LOW, RING, 1, 5, [0, 1, 2, 3, 4, 9, 9, 9]),
+        (LOW, RING, 2, 5, [0, 1, 2, 3, 4, 9, 9, 9]),
+        (LOW, RING, 3, 4, [0, 1, 2, 3, 0, 9, 9, 9]),
+        (
+            PRODUCT_OF_LATCHES,
+            LATCH_OF_PRODUCT,
+            1,
+            7,
+            [0, 1, 2, 3, 4, 5, 5, 7],
+        ),
+    ] {
+        match pair_of(alloc, left, right) {
+            Ok(product) => {
+                let version = greatest_classes(alloc, &product, k)?;
+                assert!(rt;
+                    table_of(version.classes()) == least && version.classes().count() == count
+                );
+                assert!(rt; version.number() < count && version.k() == k);
+            }
+            Err(_) => assert!(rt; false),
+        }
+    }
+    Ok(())
+}
+
+#[test]
+fn openings_tell_apart_what_the_first_frames_do(rt: HostRuntime) -> Result<(), Fail> {
+    let alloc = rt.alloc();
+    for (left, right, number, count, least) in [
+        (TOGGLE, TOGGLE, 1, 2, [0, 1, 1, 9, 9, 9, 9, 9]),
+        (LOW, RING, 2, 4, [0, 1, 2, 3, 0, 9, 9, 9]),
+        // frame 0 tells the inputs and their product apart, and frame 1 the latches
+        (
+            PRODUCT_OF_LATCHES,
+            LATCH_OF_PRODUCT,
+            2,
+            7,
+            [0, 1, 2, 3, 4, 5, 5, 7],
+        ),
+    ] {
+        match pair_of(alloc, left, right) {
+            Ok(product) => {
+                let version = Version::opening(alloc, &product, 1)?;
+                let classes = version.classes();
+                assert!(rt; table_of(classes) == least && classes.count() == count);
+                assert!(rt; version.number() == number && version.k() == 1);
+            }
+            Err(_) => assert!(rt; false),
+        }
+    }
+    Ok(())
+}
+
+// A row's bits as a number, lowest first.
+fn number_of(row: &BitRow) -> u32 {
+    let mut bits = 0;
+    for i in 0..row.len() {
+        if i < 32 && row.get(i) {
+            bits |= 1 << i;
+        }
+    }
+    bits
+}
+
+// Proves the first needed pair of a version, and splits a copy where that fails. Answers the member where it holds, or
+// else 9; the vector's bits; and the number and the count of the copy.
+fn prove_first(
+    alloc: Global,
+    version: &Version<'_>,
+    next: &mut Version<'_>,
+) -> Result<[u32; 2], AllocError>
+    requires product { next.old.pair ≡ version.now.pair }
+    requires k { next.old.k ≡ version.now.k }
+    ensures product { next.new.pair ≡ next.old.pair }
+    ensures k { next.new.k ≡ next.old.k }
+{
+    let prover = Prover::new(alloc, version)?;
+    match prover.version().classes().next_pair(0) {
+        None => Ok([9, 0]),
+        Some(pair) => match prover.prove(alloc, pair)? {
+            Proof::Holds(verdict) => Ok([verdict.member(), 0]),
+            Proof::Splits(vector) => {
+                next.split_by(&vector);
+                Ok([9, number_of(vector.bits())])
+            }
+        },
+    }
+}
+
+// Two toggling latches: the constant is taken apart by the frame after reset, and then the latches hold together.
+fn toggles(alloc: Global, product: &Product) -> Result<[[u32; 2]; 2], AllocError> {
+    let mut version = Version::first(alloc, product, 1)?;
+    let now = version.copy(alloc)?;
+    let first = prove_first(alloc, &now, &mut version)?;
+    let now = version.copy(alloc)?;
+    let second = prove_first(alloc, &now, &mut version)?;
+    Ok([first, second])
+}
+
+#[test]
+fn a_vector_takes_the_constant_away_and_then_the_latches_hold(rt: HostRuntime) -> Result<(), Fail> {
+    let alloc = rt.alloc();
+    match pair_of(alloc, TOGGLE, TOGGLE) {
+        Ok(product) => assert!(rt; toggles(alloc, &product)? == [[9, 0b110], [2, 0]]),
+        Err(_) => assert!(rt; false),
+    }
+    Ok(())
+}
+
+// Pushes a copy and reads it. Answers its index, and whether its classes and number are those that were pushed.
+fn push_and_read<'p>(
+    rt: &impl Wait,
+    alloc: Global,
+    versions: &Versions<'p>,
+    version: &Version<'p>,
+) -> Result<(usize, bool), AllocError> {
+    let copy = version.copy(alloc)?;
+    let Ok(stamp) = versions.push(rt, copy) else {
+        return Err(AllocError);
+    };
+    let read = versions.at(&stamp);
+    let same = table_of(read.classes()) == table_of(version.classes());
+    Ok((stamp.index(), same && read.number() == version.number()))
+}
+
+// Three copies of the first version and the opening's get the indices 0 to 3, and a copy of a stamp is the same stamp.
+fn are_stamped(rt: &impl Wait, alloc: Global, product: &Product) -> Result<bool, AllocError> {
+    let versions = Versions::new(alloc)?;
+    let first = Version::first(alloc, product, 1)?;
+    let opening = Version::opening(alloc, product, 1)?;
+    for index in 0..3usize {
+        if push_and_read(rt, alloc, &versions, &first)? != (index, true) {
+            return Ok(false);
+        }
+    }
+    let (Ok(a), Ok(b)) = (versions.push(rt, opening), versions.push(rt, first)) else {
+        return Err(AllocError);
+    };
+    Ok(
+        a.index() == 3
+            && versions.same(&a, &a.copy())
+            && !versions.same(&a, &b)
+            && versions.at(&a).number() == 1
+            && versions.at(&b).number() == 0,
+    )
+}
+
+#[test]
+fn a_stamp_names_the_version_that_was_pushed(rt: HostRuntime) -> Result<(), Fail> {
+    let alloc = rt.alloc();
+    match pair_of(alloc, TOGGLE, TOGGLE) {
+        Ok(product) => assert!(rt; are_stamped(&rt, alloc, &product)?),
+        Err(_) => assert!(rt; false),
+    }
+    Ok(())
+}
+
+// Whether 40 copies that are pushed are read again.
+fn push_many<'p>(
+    rt: &impl Wait,
+    alloc: Global,
+    versions: &Versions<'p>,
+    version: &Version<'p>,
+) -> bool {
+    for _copy in 0..40u32 {
+        if !matches!(push_and_read(rt, alloc, versions, version), Ok((_, true))) {
+            return false;
+        }
+    }
+    true
+}
+
+// Two threads push copies of two versions at once.
+fn push_at_once<R: Threads + Wait + Sync>(
+    rt: &R,
+    alloc: Global,
+    product: &Product,
+) -> Result<(bool, bool), AllocError> {
+    let versions = Versions::new(alloc)?;
+    let first = Version::first(alloc, product, 1)?;
+    let opening = Version::opening(alloc, product, 1)?;
+    Ok(thread::join(
+        rt,
+        || push_many(rt, alloc, &versions, &first),
+        || push_many(rt, alloc, &versions, &opening),
+    ))
+}
+
+#[test]
+fn threads_push_and_read_at_once(rt: HostRuntime) -> Result<(), Fail> {
+    let alloc = rt.alloc();
+    match pair_of(alloc, TOGGLE, TOGGLE) {
+        Ok(product) => assert!(rt; push_at_once(&rt, alloc, &product)? == (true, true)),
+        Err(_) => assert!(rt; false),
+    }
+    Ok(())
+}

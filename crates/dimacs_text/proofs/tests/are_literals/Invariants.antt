@@ -1,6 +1,0 @@
-use Rattle.std.proofs.Common.{◌<◌, ℕ, pos, length, get_or}
-use Rattle.cnf_store.specs.Clauses.{IsLiteral}
-use Rattle.dimacs_text.proofs.tests.are_literals.Given as goal
-
-abbrev pub invariant-loop-lit : goal.invariant-loop-lit
-invariant-loop-lit l = (k : ℕ) → k < l.lit-index → IsLiteral l.vars (get_or l.clause k (pos 0))

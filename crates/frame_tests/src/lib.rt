@@ -1,0 +1,20 @@
+//! Tests of the pair and its frames: simulation, partitions, clauses, the base of an induction, traces and certificates.
+//! They stand in a crate of their own, so that each library is proved once.
+#![tactic(auto)]
+
+#[cfg(test)]
+mod certificates;
+#[cfg(test)]
+mod class_lines;
+#[cfg(test)]
+mod induction;
+#[cfg(test)]
+mod partitions;
+#[cfg(test)]
+mod products;
+#[cfg(test)]
+mod simulation;
+#[cfg(test)]
+mod traces;
+#[cfg(test)]
+mod unrolling;

@@ -1,0 +1,91 @@
+use aig_graph::{BuildFault, Netlist};
+use aiger_binary::read_binary;
+use aiger_codec::{NetError, read_header};
+use circ_model::{Lit, Reset};
+use std::alloc::Global;
+
+// The netlist and the place after the body, or the first fault and its place.
+fn read(alloc: Global, bytes: &[u8]) -> Result<(Netlist, u64), (&'static str, u64)> {
+    let header = match read_header(bytes) {
+        Err(fault) => return Err((fault.kind.name(), fault.at)),
+        Ok(header) => header,
+    };
+    match read_binary(alloc, bytes, &header) {
+        Err(NetError::Refused(fault)) => Err((fault.kind.name(), fault.at)),
+        Err(NetError::Memory) => Err(("memory", 0)),
+        Ok((builder, end)) => match builder.finish(alloc) {
+            Err(BuildFault::Undefined(_)) => Err(("undefined", 0)),
+            Err(BuildFault::Cyclic) => Err(("cyclic", 0)),
+            Err(_) => Err(("memory", 0)),
+            Ok(net) => Ok((net, end)),
+        },
+    }
+}
+
+// The first fault and its place, or `gates` and the place after the body.
+fn outcome(alloc: Global, bytes: &[u8]) -> (&'static str, u64) {
+    match read(alloc, bytes) {
+        Ok((_, end)) => ("gates", end),
+        Err(fault) => fault,
+    }
+}
+
+#[test]
+fn the_first_fault_is_answered_with_the_first_byte_of_its_item(rt: HostRuntime) {
+    let alloc = rt.alloc();
+    let rows = [
+        (b"aig 1 0 0 0 1\n\x00\x00".as_slice(), ("order", 14)),
+        (b"aig 1 0 0 0 1\n\x03\x00".as_slice(), ("order", 14)),
+        (b"aig 1 0 0 0 1\n\x01\x02".as_slice(), ("order", 14)),
+        (b"aig 1 0 0 0 1\n\x02\x00".as_slice(), ("gates", 16)),
+        (b"aig 1 0 0 0 1\n\x01\x01".as_slice(), ("gates", 16)),
+        (b"aig 1 0 0 0 1\n\x82\x00\x80\x00".as_slice(), ("gates", 18)),
+        (b"aig 1 0 0 0 1\n\x82".as_slice(), ("truncated", 14)),
+        (b"aig 1 0 0 0 1\n\x02\x80".as_slice(), ("truncated", 14)),
+        (
+            b"aig 1 0 0 0 1\n\xff\xff\xff\xff\x1f\x00".as_slice(),
+            ("line", 14),
+        ),
+        (
+            b"aig 1 0 0 0 1\n\x02\x80\x80\x80\x80\x80".as_slice(),
+            ("line", 14),
+        ),
+        (b"aig 1 0 1 0 0\n4\n".as_slice(), ("literal", 14)),
+        (b"aig 1 0 1 0 0\n2 3\n".as_slice(), ("reset", 14)),
+        (b"aig 1 0 1 0 0\n2 2 2\n".as_slice(), ("line", 14)),
+        (b"aig 1 0 1 0 0\n2 2".as_slice(), ("truncated", 14)),
+        (b"aig 1 1 0 2 0\n2\n4\n".as_slice(), ("literal", 16)),
+        (
+            b"aig 3 1 1 1 1\n7 1\n6\n\x02\x02c".as_slice(),
+            ("gates", 22),
+        ),
+    ];
+    for (bytes, wanted) in rows {
+        assert_eq!(rt; outcome(alloc, bytes), wanted);
+    }
+}
+
+#[test]
+fn variables_are_inputs_then_latches_then_gates(rt: HostRuntime) {
+    let read = read(rt.alloc(), b"aig 4 1 2 1 1\n8 1\n3 6\n9\n\x03\x02");
+    assert!(rt; read.is_ok());
+    if let Ok((net, _)) = read {
+        assert_eq!(rt; net.inputs(), [1u32].as_slice());
+        let latches = [
+            (2u32, Lit::of(4, false), Reset::One),
+            (3, Lit::of(1, true), Reset::Free),
+        ];
+        assert_eq!(rt; net.latches().len(), 2);
+        for (latch, wanted) in net.latches().iter().zip(latches) {
+            assert_eq!(rt; (latch.var, latch.next, latch.reset), wanted);
+        }
+        assert_eq!(rt; net.outputs(), [Lit::of(4, true)].as_slice());
+        assert_eq!(rt; net.gates().len(), 1);
+        for gate in net.gates() {
+            assert_eq!(rt;
+                (gate.var, gate.left, gate.right),
+                (4, Lit::of(2, true), Lit::of(1, true))
+            );
+        }
+    }
+}

@@ -1,0 +1,114 @@
+use aiger_codec::*;
+use std::test::Fail;
+
+#[test]
+fn the_first_fault_of_a_header_is_answered(rt: HostRuntime) -> Result<(), Fail> {
+    let files = [
+        (b"abc".as_slice(), NetKind::Header),
+        (b"aag 0 0 0 0 0 1\n".as_slice(), NetKind::Bad),
+        (b"aag 0 0 0 0 0 0 1\n".as_slice(), NetKind::Constraint),
+        (b"aag 0 0 0 0 0 0 0 1\n".as_slice(), NetKind::Justice),
+        (b"aag 0 0 0 0 0 0 0 0 1\n".as_slice(), NetKind::Fairness),
+        (b"aag 1000001 0 0 0 0\n".as_slice(), NetKind::Limit),
+        (b"aag 1 1 1 0 0\n".as_slice(), NetKind::Count),
+        (b"aig 1 0 0 0 0\n".as_slice(), NetKind::Count),
+        (b"aag 1 1 0 1 0".as_slice(), NetKind::Truncated),
+        (b"aag 1 1  0 1 0\n".as_slice(), NetKind::Header),
+        (b"aag 1 1 0 1\n".as_slice(), NetKind::Header),
+    ];
+    for (bytes, kind) in files {
+        assert_eq!(rt; read_header(bytes), Err(NetFault { kind, at: 0 }));
+    }
+    let header = Header {
+        binary: false,
+        m: 2,
+        i: 1,
+        l: 0,
+        o: 3,
+        a: 1,
+        end: 15,
+    };
+    assert_eq!(rt; read_header(b"aag 2 01 0 3 1\n"), Ok(header));
+    assert_eq!(rt; NetKind::Justice.name(), "section justice");
+    Ok(())
+}
+
+#[test]
+fn numbers_are_read_at_their_places(rt: HostRuntime) -> Result<(), Fail> {
+    let bytes = b"12 007x99999999999";
+    let spelled = [
+        (0, Some((12, 2))),
+        (1, Some((2, 2))),
+        (2, None),
+        (3, Some((7, 6))),
+        (7, Some((4294967295u32, 18u64))),
+        (18, None),
+    ];
+    for (at, number) in spelled {
+        assert_eq!(rt; read_number(bytes, at), number);
+    }
+    Ok(())
+}
+
+#[test]
+fn binary_numbers_are_written_and_read(rt: HostRuntime) -> Result<(), Fail> {
+    let mut bytes = Vec::new(rt.alloc());
+    let spelled = [
+        (0u32, 1u64),
+        (127, 2),
+        (128, 4),
+        (16383, 6),
+        (16384, 9),
+        (4294967295, 14),
+    ];
+    let mut at = 0u64;
+    for (n, end) in spelled {
+        write_delta(&mut bytes, n)?;
+        assert_eq!(rt; read_delta(bytes.as_slice(), at), Delta::Value(n, end));
+        at = end;
+    }
+    assert_eq!(rt; read_delta(&[128, 128], 0), Delta::Cut);
+    assert_eq!(rt; read_delta(&[128, 128, 128, 128, 128, 0], 0), Delta::Wide);
+    assert_eq!(rt; read_delta(&[128, 128, 128, 128, 16], 0), Delta::Wide);
+    Ok(())
+}
+
+#[test]
+fn binary_numbers_have_these_bytes(rt: HostRuntime) -> Result<(), Fail> {
+    let rows = [
+        (0u32, b"\x00".as_slice()),
+        (2, b"\x02".as_slice()),
+        (127, b"\x7f".as_slice()),
+        (128, b"\x80\x01".as_slice()),
+        (300, b"\xac\x02".as_slice()),
+        (16383, b"\xff\x7f".as_slice()),
+        (16384, b"\x80\x80\x01".as_slice()),
+        (4294967295, b"\xff\xff\xff\xff\x0f".as_slice()),
+    ];
+    for (n, wanted) in rows {
+        let mut bytes = Vec::new(rt.alloc());
+        write_delta(&mut bytes, n)?;
+        assert_eq!(rt; bytes.as_slice(), wanted);
+    }
+    assert_eq!(rt; read_delta(b"\x80\x00", 0), Delta::Value(0, 2));
+    assert_eq!(rt; read_delta(b"\xff\xff\xff\xff\x1f", 0), Delta::Wide);
+    assert_eq!(rt; read_delta(b"\x80\x80\x80\x80\x80", 0), Delta::Wide);
+    assert_eq!(rt; read_delta(b"", 0), Delta::Cut);
+    Ok(())
+}
+
+#[test]
+fn symbols_end_at_the_comment(rt: HostRuntime) -> Result<(), Fail> {
+    let counts = Counts {
+        inputs: 1,
+        latches: 0,
+        outputs: 2,
+    };
+    assert_eq!(rt; read_symbols(&counts, b"i0 x\no1 \ncany", 0), Ok(9));
+    let fault = NetFault {
+        kind: NetKind::Symbol,
+        at: 5,
+    };
+    assert_eq!(rt; read_symbols(&counts, b"i0 x\nl0 y\n", 0), Err(fault));
+    Ok(())
+}

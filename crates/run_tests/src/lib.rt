@@ -1,0 +1,14 @@
+//! Tests of whole runs of the program: devices, words, demo pairs, and `run`.
+//! They stand in a crate of their own, so that each library is proved once.
+#![tactic(auto)]
+
+#[cfg(test)]
+mod demos;
+#[cfg(test)]
+mod devices;
+#[cfg(test)]
+mod plain;
+#[cfg(test)]
+mod runs;
+#[cfg(test)]
+mod words;

@@ -1,0 +1,1012 @@
+ghost use Rattle.std.specs.Prelude.{◌≢◌};
+
+use crate::plain::{few_free_bits, plain_classes};
+use aiger_file::read_netlist;
+use class_partition::Classes;
+use meeting_gate::Meeting;
+use product_machine::Product;
+use sec_base::{FreeGate, Gate, MemShelf, MemSink, SureShelf, SureSink};
+use sec_cli::*;
+use std::alloc::{AllocError, Global};
+use std::sync::Wait;
+use std::test::Fail;
+use std::thread::Threads;
+use verdict_stamp::greatest_classes;
+
+// What a run over two netlists and a trace answers.
+#[derive(Clone, Copy)]
+struct Row {
+    words: &'static str,
+    left: &'static str,
+    right: &'static str,
+    trace: &'static str,
+    status: u8,
+    out: &'static str,
+    err: &'static str,
+}
+
+const TOGGLE: &str = "aag 1 0 1 1 0\n2 3\n2\n";
+
+const LOW: &str = "aag 0 0 0 1 0\n0\n";
+
+const RING: &str = "aag 4 0 3 1 1\n2 6 1\n4 2\n6 4\n8\n8 2 4\n";
+
+const DELAY: &str = "aag 2 1 1 1 0\n2\n4 2\n4\n";
+
+const MASKED: &str =
+    "aag 10 1 3 1 6\n2\n4 2\n6 21\n8 1\n6\n10 4 9\n12 5 8\n14 11 13\n16 2 14\n18 3 15\n20 17 19\n";
+
+fn words_of(alloc: Global, text: &str) -> Result<Vec<String>, AllocError> {
+    let mut words = Vec::new(alloc);
+    for word in text.split(' ') {
+        words.push(format!(in alloc; "{word}")?)?;
+    }
+    Ok(words)
+}
+
+// A shelf with the files of a row, of which the calls that are listed fail.
+fn shelf_of(alloc: Global, row: &Row, fails: Vec<u64>) -> Option<MemShelf> {
+    let mut shelf = MemShelf::new(alloc, fails);
+    if shelf.put("left", row.left.as_bytes()).is_err() {
+        return None;
+    }
+    if shelf.put("right", row.right.as_bytes()).is_err() {
+        return None;
+    }
+    if shelf.put("trace", row.trace.as_bytes()).is_err() {
+        return None;
+    }
+    Some(shelf)
+}
+
+// Runs over a shelf and sinks in memory, of which the calls that are listed fail, and answers the shelf where all is as the row
+// has it.
+fn run_so<R: Threads + Wait + Sync>(
+    rt: &R,
+    alloc: Global,
+    row: &Row,
+    shelf_fails: Vec<u64>,
+    out_fails: Vec<u64>,
+) -> Result<Option<MemShelf>, AllocError> {
+    run_within(rt, alloc, row, shelf_fails, out_fails, Vec::new(alloc), 400)
+}
+
+// The same, where calls of the error sink fail too, and the output has so much room.
+fn run_within<R: Threads + Wait + Sync>(
+    rt: &R,
+    alloc: Global,
+    row: &Row,
+    shelf_fails: Vec<u64>,
+    out_fails: Vec<u64>,
+    err_fails: Vec<u64>,
+    out_room: usize,
+) -> Result<Option<MemShelf>, AllocError> {
+    let words = words_of(alloc, row.words)?;
+    let Some(mut shelf) = shelf_of(alloc, row, shelf_fails) else {
+        return Ok(None);
+    };
+    let (Ok(mut out), Ok(mut err)) = (
+        MemSink::with_room(alloc, out_room, out_fails),
+        MemSink::with_room(alloc, 400, err_fails),
+    ) else {
+        return Ok(None);
+    };
+    let report = run(rt, alloc, &words, &mut shelf, &mut out, &mut err, &FreeGate);
+    if report.status == row.status
+        && out.bytes() == row.out.as_bytes()
+        && err.bytes() == row.err.as_bytes()
+    {
+        Ok(Some(shelf))
+    } else {
+        Ok(None)
+    }
+}
+
+fn answers_so<R: Threads + Wait + Sync>(
+    rt: &R,
+    alloc: Global,
+    row: &Row,
+) -> Result<bool, AllocError> {
+    let shelf = run_so(rt, alloc, row, Vec::new(alloc), Vec::new(alloc))?;
+    Ok(shelf.is_some())
+}
+
+fn case(
+    words: &'static str,
+    left: &'static str,
+    right: &'static str,
+    status: u8,
+    out: &'static str,
+    err: &'static str,
+) -> Row {
+    Row {
+        words,
+        left,
+        right,
+        trace: "1\nb0\n0\n\n\n.\n",
+        status,
+        out,
+        err,
+    }
+}
+
+// Where no device fails, a run ends by an answer, by a refusal or by want of memory.
+fn run_over_sure_devices<R: Threads + Wait + Sync>(
+    rt: &R,
+    alloc: Global,
+    words: &[String],
+    shelf: &mut SureShelf,
+) -> Report
+    ensures read { result.status ≢ 5 }
+    ensures written { result.status ≢ 6 }
+{
+    let mut out = SureSink::new();
+    let mut err = SureSink::new();
+    run(rt, alloc, words, shelf, &mut out, &mut err, &FreeGate)
+}
+
+#[test]
+fn pairs_that_are_proved(rt: HostRuntime) -> Result<(), Fail> {
+    let alloc = rt.alloc();
+    let and = "aag 5 2 2 1 1\n2\n4\n6 2\n8 4\n10\n10 6 8\n";
+    let retimed = "aag 4 2 1 1 1\n2\n4\n6 8\n6\n8 2 4\n";
+    let eight = "aag 8 8 0 0 0\n2\n4\n6\n8\n10\n12\n14\n16\n";
+    let complement = "aag 1 0 1 1 0\n2 3 1\n3\n";
+    let two = "equivalent k=1 signals=3 classes=2\n";
+    let rows = [
+        case("sec check left right", TOGGLE, TOGGLE, 0, two, ""),
+        case("sec check left right", TOGGLE, complement, 0, two, ""),
+        case(
+            "sec check left right --classes",
+            TOGGLE,
+            complement,
+            0,
+            "equivalent k=1 signals=3 classes=2\nclass l1 !r1\n",
+            "",
+        ),
+        case(
+            "sec check left right",
+            and,
+            retimed,
+            0,
+            "equivalent k=1 signals=8 classes=7\n",
+            "",
+        ),
+        case(
+            "sec check left right",
+            and,
+            "aig 4 2 1 1 1\n8\n6\n\x04\x02",
+            0,
+            "equivalent k=1 signals=8 classes=7\n",
+            "",
+        ),
+        case(
+            "sec check left right -k 3",
+            LOW,
+            RING,
+            0,
+            "equivalent k=3 signals=5 classes=4\n",
+            "",
+        ),
+        case(
+            "sec check -k 2 left -j 4 right",
+            eight,
+            eight,
+            0,
+            "equivalent k=2 signals=9 classes=9\n",
+            "",
+        ),
+        case(
+            "sec check left right",
+            "aag 0 0 0 0 0\n",
+            "aag 0 0 0 0 0\n",
+            0,
+            "equivalent k=1 signals=1 classes=1\n",
+            "",
+        ),
+        case(
+            "sec check left right",
+            "aag 1 0 1 1 0\n2 3\n2\nl0 x\no0 y\ncmade by hand",
+            TOGGLE,
+            0,
+            two,
+            "",
+        ),
+    ];
+    for row in rows.iter() {
+        assert!(rt; answers_so(&rt, alloc, row)?);
+    }
+    Ok(())
+}
+
+#[test]
+fn pairs_that_differ_or_stay_open(rt: HostRuntime) -> Result<(), Fail> {
+    let alloc = rt.alloc();
+    let rows = [
+        case(
+            "sec check left right",
+            TOGGLE,
+            LOW,
+            2,
+            "undecided k=1 signals=2 classes=2 unpaired=0\n",
+            "",
+        ),
+        case(
+            "sec check left right -k 2",
+            TOGGLE,
+            LOW,
+            1,
+            "different k=2 frame=1 output=0\n1\nb0\n0\n\n\n.\n",
+            "",
+        ),
+        case(
+            "sec check left right --classes",
+            DELAY,
+            MASKED,
+            2,
+            "undecided k=1 signals=12 classes=9 unpaired=0\nclass c r5\nclass l2 r2\nclass r6 !r7\n",
+            "",
+        ),
+        case(
+            "sec check left right -k 2",
+            LOW,
+            RING,
+            2,
+            "undecided k=2 signals=5 classes=5 unpaired=0\n",
+            "",
+        ),
+        case(
+            "sec check left right",
+            LOW,
+            RING,
+            2,
+            "undecided k=1 signals=5 classes=5 unpaired=0\n",
+            "",
+        ),
+        case(
+            "sec check left right",
+            TOGGLE,
+            "aag 1 0 1 1 0\n2 3 1\n2\n",
+            1,
+            "different k=1 frame=0 output=0\n1\nb0\n01\n\n.\n",
+            "",
+        ),
+        case(
+            "sec check left right",
+            "aag 1 0 1 2 0\n2 3\n2\n2\n",
+            "aag 1 0 1 2 0\n2 3\n2\n0\n",
+            2,
+            "undecided k=1 signals=3 classes=2 unpaired=1\n",
+            "",
+        ),
+        case(
+            "sec replay left right trace",
+            TOGGLE,
+            LOW,
+            1,
+            "differs frame=1 output=0\n",
+            "",
+        ),
+        case(
+            "sec replay left right trace",
+            TOGGLE,
+            TOGGLE,
+            4,
+            "",
+            "sec: trace: length at line 3\n",
+        ),
+    ];
+    for row in rows.iter() {
+        assert!(rt; answers_so(&rt, alloc, row)?);
+    }
+    Ok(())
+}
+
+#[test]
+fn files_that_are_refused(rt: HostRuntime) -> Result<(), Fail> {
+    let alloc = rt.alloc();
+    let words = "sec check left right";
+    let none = "aag 0 0 0 0 0\n";
+    let rows = [
+        case(words, DELAY, none, 4, "", "sec: inputs differ: 1 and 0\n"),
+        case(words, none, LOW, 4, "", "sec: outputs differ: 0 and 1\n"),
+        case(
+            words,
+            "aag 1 1 0 0 0 1\n2\n2\n",
+            TOGGLE,
+            4,
+            "",
+            "sec: left: section bad at byte 0\n",
+        ),
+        case(
+            words,
+            TOGGLE,
+            "aag 2 1 0 1 0\n2\n4\n",
+            4,
+            "",
+            "sec: right: undefined at byte 0\n",
+        ),
+        case(
+            "sec check left none",
+            TOGGLE,
+            TOGGLE,
+            5,
+            "",
+            "sec: none: read failed\n",
+        ),
+        case(
+            "sec check left none",
+            "aag 2 0 0 1 2\n2\n2 4 4\n4 2 2\n",
+            TOGGLE,
+            4,
+            "",
+            "sec: left: cyclic at byte 0\n",
+        ),
+        case(
+            words,
+            TOGGLE,
+            "aig 4 2 1 1 1\n8\n6\n\x04",
+            4,
+            "",
+            "sec: right: truncated at byte 18\n",
+        ),
+        case(
+            "sec replay left right none",
+            TOGGLE,
+            TOGGLE,
+            5,
+            "",
+            "sec: none: read failed\n",
+        ),
+    ];
+    for row in rows.iter() {
+        assert!(rt; answers_so(&rt, alloc, row)?);
+    }
+    Ok(())
+}
+
+#[test]
+fn demos_are_equivalent(rt: HostRuntime) -> Result<(), Fail> {
+    let alloc = rt.alloc();
+    let rows = [
+        (
+            "sec demo 0",
+            "demo n=0 inputs=0 latches=0 gates=0 outputs=0\nequivalent k=1 signals=1 classes=1\n",
+        ),
+        (
+            "sec demo 1 -k 1",
+            "demo n=1 inputs=1 latches=1 gates=6 outputs=1\nequivalent k=1 signals=16 classes=4\n",
+        ),
+        (
+            "sec demo 2",
+            "demo n=2 inputs=2 latches=2 gates=12 outputs=2\nequivalent k=1 signals=31 classes=9\n",
+        ),
+        (
+            "sec demo -j 7 5",
+            "demo n=5 inputs=5 latches=5 gates=30 outputs=5\nequivalent k=1 signals=76 classes=27\n",
+        ),
+        (
+            "sec demo 10",
+            "demo n=10 inputs=10 latches=10 gates=60 outputs=10\nequivalent k=1 signals=151 classes=70\n",
+        ),
+        (
+            "sec demo 20",
+            "demo n=20 inputs=20 latches=20 gates=120 outputs=20\nequivalent k=1 signals=301 classes=147\n",
+        ),
+    ];
+    for (words, out) in rows {
+        assert!(rt; answers_so(&rt, alloc, &case(words, "", "", 0, out, ""))?);
+    }
+    Ok(())
+}
+
+#[test]
+fn numbers_of_entries(rt: HostRuntime) -> Result<(), Fail> {
+    let alloc = rt.alloc();
+    let none = "aag 0 0 0 0 0\n";
+    let nothing =
+        "equivalent k=1 signals=1 classes=1\nstats offers=0 counted=0 stale=0 splits=0 already=0 back=0\n";
+    // Simulation tells both latches from the constant, and leaves one pair, which one worker proves.
+    let one =
+        "equivalent k=1 signals=3 classes=2\nclass l1 r1\nstats offers=1 counted=1 stale=0 splits=0 already=0 back=0\n";
+    let open =
+        "undecided k=1 signals=2 classes=2 unpaired=0\nstats offers=0 counted=0 stale=0 splits=0 already=0 back=0\n";
+    let differs = "different k=2 frame=1 output=0\n1\nb0\n0\n\n\n.\n";
+    let rows = [
+        case("sec check left right --stats", none, none, 0, nothing, ""),
+        case(
+            "sec check left right --stats -j 64",
+            none,
+            none,
+            0,
+            nothing,
+            "",
+        ),
+        case(
+            "sec check --stats left right --classes",
+            TOGGLE,
+            TOGGLE,
+            0,
+            one,
+            "",
+        ),
+        case(
+            "sec check left right --classes --stats -j 7",
+            TOGGLE,
+            TOGGLE,
+            0,
+            one,
+            "",
+        ),
+        case("sec check left right --stats", TOGGLE, LOW, 2, open, ""),
+        case(
+            "sec check left right --stats -k 2",
+            TOGGLE,
+            LOW,
+            1,
+            differs,
+            "",
+        ),
+    ];
+    for row in rows.iter() {
+        assert!(rt; answers_so(&rt, alloc, row)?);
+    }
+    Ok(())
+}
+
+#[test]
+fn any_number_of_workers_tells_the_same(rt: HostRuntime) -> Result<(), Fail> {
+    let alloc = rt.alloc();
+    let ten =
+        "demo n=10 inputs=10 latches=10 gates=60 outputs=10\nequivalent k=1 signals=151 classes=70\n";
+    let open =
+        "undecided k=1 signals=12 classes=9 unpaired=0\nclass c r5\nclass l2 r2\nclass r6 !r7\n";
+    let rows = [
+        case(
+            "sec check left right --classes -j 1",
+            DELAY,
+            MASKED,
+            2,
+            open,
+            "",
+        ),
+        case(
+            "sec check left right --classes -j 2",
+            DELAY,
+            MASKED,
+            2,
+            open,
+            "",
+        ),
+        case(
+            "sec check left right --classes -j 7",
+            DELAY,
+            MASKED,
+            2,
+            open,
+            "",
+        ),
+        case("sec demo 10 -j 1", "", "", 0, ten, ""),
+        case("sec demo 10 -j 2", "", "", 0, ten, ""),
+        case("sec demo 10 -j 7", "", "", 0, ten, ""),
+    ];
+    for row in rows.iter() {
+        assert!(rt; answers_so(&rt, alloc, row)?);
+    }
+    Ok(())
+}
+
+// Whether a run whose workers are held at a gate ends so.
+fn answers_at<R: Threads + Wait + Sync, G: Gate>(
+    rt: &R,
+    alloc: Global,
+    row: &Row,
+    gate: &G,
+) -> Result<bool, AllocError> {
+    let words = words_of(alloc, row.words)?;
+    let Some(mut shelf) = shelf_of(alloc, row, Vec::new(alloc)) else {
+        return Ok(false);
+    };
+    let (Ok(mut out), Ok(mut err)) = (
+        MemSink::with_room(alloc, 400, Vec::new(alloc)),
+        MemSink::with_room(alloc, 400, Vec::new(alloc)),
+    ) else {
+        return Ok(false);
+    };
+    let report = run(rt, alloc, &words, &mut shelf, &mut out, &mut err, gate);
+    Ok(report.status == row.status && out.bytes() == row.out.as_bytes())
+}
+
+#[test]
+fn two_workers_of_a_check_meet(rt: HostRuntime) -> Result<(), Fail> {
+    let alloc = rt.alloc();
+    let open = "undecided k=1 signals=12 classes=9 unpaired=0\n";
+    let row = case("sec check left right -j 2", DELAY, MASKED, 2, open, "");
+    let gate = Meeting::new();
+    assert!(rt; answers_at(&rt, alloc, &row, &gate)?);
+    assert!(rt; gate.is_met());
+    Ok(())
+}
+
+#[test]
+fn seven_workers_tell_the_same_each_time(rt: HostRuntime) -> Result<(), Fail> {
+    let alloc = rt.alloc();
+    let fifty =
+        "demo n=50 inputs=50 latches=50 gates=300 outputs=50\nequivalent k=1 signals=751 classes=385\n";
+    for _ in 0..3u32 {
+        assert!(rt; answers_so(&rt, alloc, &case("sec demo 50 -j 7", "", "", 0, fifty, ""))?);
+    }
+    Ok(())
+}
+
+#[test]
+fn words_that_are_no_command(rt: HostRuntime) -> Result<(), Fail> {
+    let alloc = rt.alloc();
+    let usage =
+        "usage: sec check LEFT RIGHT [-k K] [-j J] [--classes] [--stats] [--trace FILE] [--cert FILE]\n       sec replay LEFT RIGHT TRACE\n       sec verify LEFT RIGHT CERT\n       sec demo N [-k K] [-j J]\n";
+    for words in [
+        "sec",
+        "sec help",
+        "sec --help",
+        "sec check left right -h",
+        "sec --version",
+        "sec check left",
+        "sec check left right more",
+        "sec check left right -k",
+        "sec check left right -k 0",
+        "sec check left right -k 17",
+        "sec check left right -k17",
+        "sec check left right -k 1 -k 1",
+        "sec check left right -j 65",
+        "sec check left right --classes --classes",
+        "sec check left right --stats --stats",
+        "sec check left right --trace -k",
+        "sec replay left right",
+        "sec replay left right trace -k 1",
+        "sec verify left right",
+        "sec verify left right trace -k 1",
+        "sec check left right --cert",
+        "sec check left right --cert a --cert b",
+        "sec verify left right trace --cert a",
+        "sec demo 1 --cert a",
+        "sec proof left right",
+        "sec demo",
+        "sec demo 100001",
+        "sec demo 1 2",
+        "sec demo 1 --classes",
+        "sec demo 1 --stats",
+        "sec replay left right trace --stats",
+        "sec demo -k 1",
+    ] {
+        assert!(rt; answers_so(&rt, alloc, &case(words, TOGGLE, TOGGLE, 3, "", usage))?);
+    }
+    Ok(())
+}
+
+#[test]
+fn other_spellings_mean_the_same(rt: HostRuntime) -> Result<(), Fail> {
+    let alloc = rt.alloc();
+    let different = "different k=2 frame=1 output=0\n1\nb0\n0\n\n\n.\n";
+    for words in [
+        "sec check left right -k 2 --trace made",
+        "sec check left right -k2 --trace=made",
+        "sec check --trace=made -k=2 -- left right",
+        "sec check left right -k 02 --trace made",
+    ] {
+        let row = case(words, TOGGLE, LOW, 1, different, "");
+        let shelf = run_so(&rt, alloc, &row, Vec::new(alloc), Vec::new(alloc))?;
+        assert!(rt; holds(&shelf, "made", b"1\nb0\n0\n\n\n.\n"));
+    }
+    let demo =
+        "demo n=2 inputs=2 latches=2 gates=12 outputs=2\nequivalent k=1 signals=31 classes=9\n";
+    for words in ["sec demo 2", "sec demo 02", "sec demo +2 -j1"] {
+        assert!(rt; answers_so(&rt, alloc, &case(words, "", "", 0, demo, ""))?);
+    }
+    Ok(())
+}
+
+#[test]
+fn a_trace_is_stored_before_it_is_printed(rt: HostRuntime) -> Result<(), Fail> {
+    let alloc = rt.alloc();
+    let words = "sec check left right -k 2 --trace made";
+    let text = "different k=2 frame=1 output=0\n1\nb0\n0\n\n\n.\n";
+    let made = case(words, TOGGLE, LOW, 1, text, "");
+    let shelf = run_so(&rt, alloc, &made, Vec::new(alloc), Vec::new(alloc))?;
+    assert!(rt; holds(&shelf, "made", b"1\nb0\n0\n\n\n.\n"));
+    let unwritten = case(words, TOGGLE, LOW, 6, "", "sec: output: write failed\n");
+    let shelf = run_so(&rt, alloc, &unwritten, Vec::new(alloc), vec![in alloc; 0]?)?;
+    assert!(rt; holds(&shelf, "made", b"1\nb0\n0\n\n\n.\n"));
+    let unstored = case(words, TOGGLE, LOW, 6, "", "sec: made: write failed\n");
+    let shelf = run_so(&rt, alloc, &unstored, vec![in alloc; 2]?, Vec::new(alloc))?;
+    assert!(rt; shelf.is_some());
+    let unread = case(words, TOGGLE, LOW, 5, "", "sec: left: read failed\n");
+    let shelf = run_so(&rt, alloc, &unread, vec![in alloc; 0]?, Vec::new(alloc))?;
+    assert!(rt; shelf.is_some());
+    Ok(())
+}
+
+// Whether the shelf holds these bytes under a name.
+fn holds(shelf: &Option<MemShelf>, name: &str, bytes: &[u8]) -> bool {
+    match shelf {
+        Some(shelf) => match shelf.get(name) {
+            Some(file) => file == bytes,
+            None => false,
+        },
+        None => false,
+    }
+}
+
+// The pair of two texts.
+fn pair_of(alloc: Global, left: &str, right: &str) -> Option<Product> {
+    let Ok(first) = read_netlist(alloc, left.as_bytes()) else {
+        return None;
+    };
+    let Ok(second) = read_netlist(alloc, right.as_bytes()) else {
+        return None;
+    };
+    match Product::new(alloc, first, second) {
+        Ok(product) => Some(product),
+        Err(_) => None,
+    }
+}
+
+// Whether two partitions are the same.
+fn are_same(a: &Classes, b: &Classes) -> bool {
+    if a.len() != b.len() {
+        return false;
+    }
+    for place in 0..a.len() {
+        if a.rep(place) != b.rep(place) {
+            return false;
+        }
+    }
+    true
+}
+
+// Whether the classes that the solver finds for k = 1 are those found by trying all paths.
+fn agrees_with_plain(alloc: Global, left: &str, right: &str) -> Result<bool, AllocError> {
+    let Some(product) = pair_of(alloc, left, right) else {
+        return Ok(false);
+    };
+    let Some(bits) = few_free_bits(&product) else {
+        return Ok(false);
+    };
+    let plain = plain_classes(alloc, &product, bits)?;
+    let version = greatest_classes(alloc, &product, 1)?;
+    Ok(are_same(&plain, version.classes()))
+}
+
+#[test]
+fn the_solver_finds_the_classes_of_all_paths(rt: HostRuntime) -> Result<(), Fail> {
+    let alloc = rt.alloc();
+    let free = "aag 1 0 1 1 0\n2 2 2\n2\n";
+    let and = "aag 5 2 2 1 1\n2\n4\n6 2\n8 4\n10\n10 6 8\n";
+    let retimed = "aag 4 2 1 1 1\n2\n4\n6 8\n6\n8 2 4\n";
+    for (left, right) in [
+        (TOGGLE, TOGGLE),
+        (TOGGLE, "aag 1 0 1 1 0\n2 3 1\n3\n"),
+        (TOGGLE, LOW),
+        (TOGGLE, free),
+        (free, free),
+        (LOW, RING),
+        (RING, RING),
+        (DELAY, MASKED),
+        (MASKED, MASKED),
+        (and, retimed),
+        (retimed, retimed),
+    ] {
+        assert!(rt; agrees_with_plain(alloc, left, right)?);
+    }
+    Ok(())
+}
+
+// Whether a check with these words ends with status 1 and one of these texts.
+fn differs_as<R: Threads + Wait + Sync>(
+    rt: &R,
+    alloc: Global,
+    words: &'static str,
+    left: &'static str,
+    right: &'static str,
+    texts: &[&'static str],
+) -> Result<bool, AllocError> {
+    for text in texts {
+        if answers_so(rt, alloc, &case(words, left, right, 1, text, ""))? {
+            return Ok(true);
+        }
+    }
+    Ok(false)
+}
+
+#[test]
+fn differences_are_shown_by_some_run(rt: HostRuntime) -> Result<(), Fail> {
+    let alloc = rt.alloc();
+    let words = "sec check left right";
+    let free = "aag 1 0 1 1 0\n2 2 2\n2\n";
+    let two = [
+        "different k=1 frame=0 output=0\n1\nb0\n01\n\n.\n",
+        "different k=1 frame=0 output=0\n1\nb0\n10\n\n.\n",
+    ];
+    assert!(rt; differs_as(&rt, alloc, words, free, free, &two)?);
+    let input = "aag 1 1 0 1 0\n2\n2\n";
+    let turned = "aag 1 1 0 1 0\n2\n3\n";
+    let rows = [
+        "different k=1 frame=0 output=0\n1\nb0\n\n0\n.\n",
+        "different k=1 frame=0 output=0\n1\nb0\n\n1\n.\n",
+    ];
+    assert!(rt; differs_as(&rt, alloc, words, input, turned, &rows)?);
+    // The first input is 0; the others are free.
+    let four = [
+        "different k=3 frame=2 output=0\n1\nb0\n0000\n0\n0\n0\n.\n",
+        "different k=3 frame=2 output=0\n1\nb0\n0000\n0\n0\n1\n.\n",
+        "different k=3 frame=2 output=0\n1\nb0\n0000\n0\n1\n0\n.\n",
+        "different k=3 frame=2 output=0\n1\nb0\n0000\n0\n1\n1\n.\n",
+    ];
+    assert!(rt;
+        differs_as(
+            &rt,
+            alloc,
+            "sec check left right -k 3",
+            DELAY,
+            MASKED,
+            &four
+        )?
+    );
+    let short = Row {
+        trace: "1\nb0\n0\n\n.\n",
+        ..case(
+            "sec replay left right trace",
+            TOGGLE,
+            LOW,
+            0,
+            "agrees frames=1\n",
+            "",
+        )
+    };
+    assert!(rt; answers_so(&rt, alloc, &short)?);
+    Ok(())
+}
+
+// What replaying this text on the toggling latch and the constant answers.
+fn replay(trace: &'static str, status: u8, out: &'static str, err: &'static str) -> Row {
+    Row {
+        trace,
+        ..case("sec replay left right trace", TOGGLE, LOW, status, out, err)
+    }
+}
+
+#[test]
+fn traces_with_a_fault_are_refused(rt: HostRuntime) -> Result<(), Fail> {
+    let alloc = rt.alloc();
+    assert!(rt;
+        answers_so(
+            &rt,
+            alloc,
+            &replay("1\nb0\n0\n.\n", 0, "agrees frames=0\n", "")
+        )?
+    );
+    for (trace, err) in [
+        ("0\n", "sec: trace: line at line 1\n"),
+        ("1\nb1\n0\n\n.\n", "sec: trace: line at line 2\n"),
+        ("1\nb0\n00\n\n.\n", "sec: trace: length at line 3\n"),
+        ("1\nb0\nx\n\n.\n", "sec: trace: unknown at line 3\n"),
+        ("1\nb0\n1\n\n.\n", "sec: trace: reset at line 3\n"),
+        ("1\nb0\n0\n0\n.\n", "sec: trace: length at line 4\n"),
+        ("", "sec: trace: truncated at line 1\n"),
+        ("1", "sec: trace: truncated at line 1\n"),
+        ("1\n", "sec: trace: truncated at line 2\n"),
+        ("1\nb", "sec: trace: truncated at line 2\n"),
+        ("1\nb0", "sec: trace: truncated at line 2\n"),
+        ("1\nb0\n", "sec: trace: truncated at line 3\n"),
+        ("1\nb0\n0", "sec: trace: truncated at line 3\n"),
+        ("1\nb0\n0\n", "sec: trace: truncated at line 4\n"),
+        ("1\nb0\n0\n\n", "sec: trace: truncated at line 5\n"),
+        ("1\nb0\n0\n\n\n", "sec: trace: truncated at line 6\n"),
+        ("1\nb0\n0\n\n\n.", "sec: trace: truncated at line 6\n"),
+    ] {
+        assert!(rt; answers_so(&rt, alloc, &replay(trace, 4, "", err))?);
+    }
+    Ok(())
+}
+
+#[test]
+fn an_output_with_little_room_takes_a_part(rt: HostRuntime) -> Result<(), Fail> {
+    let alloc = rt.alloc();
+    let words = "sec check left right -k 2 --trace made";
+    let cut = case(
+        words,
+        TOGGLE,
+        LOW,
+        6,
+        "different ",
+        "sec: output: write failed\n",
+    );
+    let shelf = run_within(
+        &rt,
+        alloc,
+        &cut,
+        Vec::new(alloc),
+        Vec::new(alloc),
+        Vec::new(alloc),
+        10,
+    )?;
+    assert!(rt; holds(&shelf, "made", b"1\nb0\n0\n\n\n.\n"));
+    let second = case(words, TOGGLE, LOW, 5, "", "sec: right: read failed\n");
+    let shelf = run_so(&rt, alloc, &second, vec![in alloc; 1]?, Vec::new(alloc))?;
+    assert!(rt; shelf.is_some());
+    Ok(())
+}
+
+#[test]
+fn an_error_sink_that_fails_takes_a_part(rt: HostRuntime) -> Result<(), Fail> {
+    let alloc = rt.alloc();
+    let words = "sec check left right -k 2 --trace made";
+    for (call, part) in [(0, ""), (1, "sec: "), (2, "sec: left"), (3, "sec: left: ")] {
+        let unread = case(words, TOGGLE, LOW, 5, "", part);
+        let none = vec![in alloc; 0]?;
+        let fails = vec![in alloc; call]?;
+        let shelf = run_within(&rt, alloc, &unread, none, Vec::new(alloc), fails, 400)?;
+        assert!(rt; shelf.is_some());
+    }
+    Ok(())
+}
+
+#[test]
+fn sure_devices_are_answered(rt: HostRuntime) -> Result<(), Fail> {
+    let alloc = rt.alloc();
+    let mut shelf = SureShelf::new(alloc);
+    if shelf.put("left", TOGGLE.as_bytes()).is_ok() {
+        let words = words_of(alloc, "sec check left left")?;
+        assert!(rt; run_over_sure_devices(&rt, alloc, &words, &mut shelf).status == 0);
+    }
+    Ok(())
+}
+
+// The certificate of two toggling latches, line by line.
+const CERT: &str =
+    "seccert 1 k=1 signals=3\nclass l1 r1\nbase r1\n0 6 2 3 4 0\nstep r1\n-2 0 3 8 5 11 9 0\n0 12 4 7 6 11 10 0\nend\n";
+
+// What reading this text as a certificate of two toggling latches answers.
+fn certified(cert: &'static str, status: u8, out: &'static str, err: &'static str) -> Row {
+    Row {
+        trace: cert,
+        ..case(
+            "sec verify left right trace",
+            TOGGLE,
+            TOGGLE,
+            status,
+            out,
+            err,
+        )
+    }
+}
+
+#[test]
+fn certificates_are_verified(rt: HostRuntime) -> Result<(), Fail> {
+    let alloc = rt.alloc();
+    assert!(rt; answers_so(&rt, alloc, &certified(CERT, 0, "verified\n", ""))?);
+    for (cert, err) in [
+        (
+            "seccert 1 k=1 signals=3\nclass l1 r1\nbase r1\n0 6 2 3 4 0\nstep r1\n0 12 4 7 6 11 10 0\nend\n",
+            "sec: trace: derivation at line 6\n",
+        ),
+        (
+            "seccert 1 k=1 signals=3\nclass l1 r1\nbase r1\n0 6 2 3 4 0\nstep r1\n",
+            "sec: trace: truncated at line 6\n",
+        ),
+        (
+            "seccert 1 k=1 signals=3\nbase r1\n0 6 2 3 4 0\nstep r1\n-2 0 3 8 5 11 9 0\n0 12 4 7 6 11 10 0\nend\n",
+            "sec: trace: outputs at line 1\n",
+        ),
+        (
+            "seccert 1 k=1 signals=3\nclass l1 r1\nbase l1\n0 6 2 3 4 0\n",
+            "sec: trace: order at line 3\n",
+        ),
+        (
+            "seccert 1 k=1 signals=3\nclass r1 l1\nbase r1\n",
+            "sec: trace: class at line 2\n",
+        ),
+        (
+            "seccert 1 k=1 signals=4\n",
+            "sec: trace: signals at line 1\n",
+        ),
+        (
+            "seccert 1 k=17 signals=3\n",
+            "sec: trace: limit at line 1\n",
+        ),
+        ("seccert 2\n", "sec: trace: line at line 1\n"),
+        ("", "sec: trace: truncated at line 1\n"),
+    ] {
+        assert!(rt; answers_so(&rt, alloc, &certified(cert, 4, "", err))?);
+    }
+    let none = "sec verify left right none";
+    let unread = case(none, TOGGLE, TOGGLE, 5, "", "sec: none: read failed\n");
+    assert!(rt; answers_so(&rt, alloc, &unread)?);
+    Ok(())
+}
+
+// Whether a run over this shelf answers as the row has it.
+fn answers_on<R: Threads + Wait + Sync>(
+    rt: &R,
+    alloc: Global,
+    row: &Row,
+    shelf: &mut MemShelf,
+) -> Result<bool, AllocError> {
+    let words = words_of(alloc, row.words)?;
+    let Ok(mut out) = MemSink::with_room(alloc, 400, Vec::new(alloc)) else {
+        return Ok(false);
+    };
+    let Ok(mut err) = MemSink::with_room(alloc, 400, Vec::new(alloc)) else {
+        return Ok(false);
+    };
+    let report = run(rt, alloc, &words, shelf, &mut out, &mut err, &FreeGate);
+    Ok(
+        report.status == row.status
+            && out.bytes() == row.out.as_bytes()
+            && err.bytes() == row.err.as_bytes(),
+    )
+}
+
+// Whether one run stores what the next one finds without a fault.
+fn stores_what_verifies<R: Threads + Wait + Sync>(
+    rt: &R,
+    alloc: Global,
+    made: &Row,
+    verified: &Row,
+) -> Result<bool, AllocError> {
+    let Some(mut shelf) = run_so(rt, alloc, made, Vec::new(alloc), Vec::new(alloc))? else {
+        return Ok(false);
+    };
+    answers_on(rt, alloc, verified, &mut shelf)
+}
+
+// Whether there is a shelf, and nothing under a name on it.
+fn lacks(shelf: &Option<MemShelf>, name: &str) -> bool {
+    match shelf {
+        Some(shelf) => shelf.get(name).is_none(),
+        None => false,
+    }
+}
+
+#[test]
+fn certificates_are_stored_of_equivalent_pairs(rt: HostRuntime) -> Result<(), Fail> {
+    let alloc = rt.alloc();
+    let words = "sec check left right --cert made --trace other";
+    let two = "equivalent k=1 signals=3 classes=2\n";
+    let made = case(words, TOGGLE, TOGGLE, 0, two, "");
+    let verified = case(
+        "sec verify left right made",
+        TOGGLE,
+        TOGGLE,
+        0,
+        "verified\n",
+        "",
+    );
+    assert!(rt; stores_what_verifies(&rt, alloc, &made, &verified)?);
+    let shelf = run_so(&rt, alloc, &made, Vec::new(alloc), Vec::new(alloc))?;
+    assert!(rt; lacks(&shelf, "other"));
+    let open = "undecided k=1 signals=2 classes=2 unpaired=0\n";
+    let shelf = run_so(
+        &rt,
+        alloc,
+        &case(words, TOGGLE, LOW, 2, open, ""),
+        Vec::new(alloc),
+        Vec::new(alloc),
+    )?;
+    assert!(rt; lacks(&shelf, "made"));
+    assert!(rt; lacks(&shelf, "other"));
+    let deep = "sec check left right -k 2 --cert made --trace other";
+    let text = "different k=2 frame=1 output=0\n1\nb0\n0\n\n\n.\n";
+    let shelf = run_so(
+        &rt,
+        alloc,
+        &case(deep, TOGGLE, LOW, 1, text, ""),
+        Vec::new(alloc),
+        Vec::new(alloc),
+    )?;
+    assert!(rt; lacks(&shelf, "made"));
+    assert!(rt; holds(&shelf, "other", b"1\nb0\n0\n\n\n.\n"));
+    let unstored = case(words, TOGGLE, TOGGLE, 6, "", "sec: made: write failed\n");
+    let shelf = run_so(&rt, alloc, &unstored, vec![in alloc; 2]?, Vec::new(alloc))?;
+    assert!(rt; shelf.is_some());
+    Ok(())
+}

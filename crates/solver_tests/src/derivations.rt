@@ -1,0 +1,83 @@
+use sat_log::{Log, LogError, LogFault, Stop, read_log, read_part, write_log};
+use std::alloc::Global;
+use std::test::Fail;
+
+// Whether a text is a log, and is written as it stands.
+fn is_written_again(alloc: Global, bytes: &[u8]) -> bool {
+    let Ok(log) = read_log(alloc, bytes) else {
+        return false;
+    };
+    let mut text = Vec::new(alloc);
+    match write_log(&log, &mut text) {
+        Ok(()) => text.as_slice() == bytes,
+        Err(_) => false,
+    }
+}
+
+// The first line that isn't a log line; 0 where there is none.
+fn bad_line(alloc: Global, bytes: &[u8]) -> u64 {
+    match read_log(alloc, bytes) {
+        Err(LogError::Refused(LogFault { line })) => line,
+        _ => 0,
+    }
+}
+
+#[test]
+fn logs_are_read_and_written(rt: HostRuntime) -> Result<(), Fail> {
+    let alloc = rt.alloc();
+    let texts = [
+        b"".as_slice(),
+        b"0 6 2 0\n".as_slice(),
+        b"0 0\n".as_slice(),
+        b"-2 0 3 8 5 11 9 0\n0 12 4 7 6 11 10 0\n".as_slice(),
+        b"2147483647 -2147483647 0 18446744073709551615 0\n".as_slice(),
+    ];
+    for text in texts {
+        assert!(rt; is_written_again(alloc, text));
+    }
+    Ok(())
+}
+
+#[test]
+fn the_first_line_that_is_none_is_refused(rt: HostRuntime) -> Result<(), Fail> {
+    let alloc = rt.alloc();
+    let texts = [
+        (b"0 6 2 0".as_slice(), 1),
+        (b"0 6 2 0\n\n".as_slice(), 2),
+        (b"0 6 2 0\n0 06 2 0\n".as_slice(), 2),
+        (b"0 6 2 0\n0 6 2 0\n0\n".as_slice(), 3),
+        (b"-0 0 1 0\n".as_slice(), 1),
+        (b"+1 0 1 0\n".as_slice(), 1),
+        (b"1  0 1 0\n".as_slice(), 1),
+        (b"1 0 1 0 \n".as_slice(), 1),
+        (b"1 0 -1 0\n".as_slice(), 1),
+        (b"2147483648 0 1 0\n".as_slice(), 1),
+        (b"0 18446744073709551616 0\n".as_slice(), 1),
+    ];
+    for (text, line) in texts {
+        assert!(rt; bad_line(alloc, text) == line);
+    }
+    Ok(())
+}
+
+#[test]
+fn a_part_ends_at_a_word(rt: HostRuntime) -> Result<(), Fail> {
+    let mut log = Log::new(rt.alloc());
+    let end = read_part(rt.alloc(), b"0 6 2 0\nstep r1\n".as_slice(), 4, &mut log)?;
+    assert!(rt; end.stop == Stop::Ends && end.line == 5 && end.rest == b"step r1\n".as_slice());
+    assert!(rt; log.len() == 1);
+    Ok(())
+}
+
+#[test]
+fn lines_stand_in_order(rt: HostRuntime) -> Result<(), Fail> {
+    let mut log = Log::new(rt.alloc());
+    log.add(&[-2], &[3, 8])?;
+    log.add(&[], &[12])?;
+    assert!(rt; log.len() == 2);
+    if log.len() == 2 {
+        assert!(rt; log.clause(0) == [-2].as_slice() && log.hints(0) == [3, 8].as_slice());
+        assert!(rt; log.clause(1).len() == 0 && log.hints(1) == [12].as_slice());
+    }
+    Ok(())
+}

@@ -1,0 +1,16 @@
+//! Tests of rows, clauses, the solver, derivations, their checker, and DIMACS texts.
+//! They stand in a crate of their own, so that each library is proved once.
+#![tactic(auto)]
+
+#[cfg(test)]
+mod checking;
+#[cfg(test)]
+mod clauses;
+#[cfg(test)]
+mod derivations;
+#[cfg(test)]
+mod formulas;
+#[cfg(test)]
+mod rows;
+#[cfg(test)]
+mod solving;
