@@ -13,8 +13,6 @@ mod hints;
 mod minimising;
 mod ordering;
 mod pace;
-#[cfg(test)]
-mod tests;
 mod uses;
 mod watches;
 

@@ -11,6 +11,8 @@ mod derivations;
 #[cfg(test)]
 mod formulas;
 #[cfg(test)]
+mod guidance;
+#[cfg(test)]
 mod rows;
 #[cfg(test)]
 mod solving;

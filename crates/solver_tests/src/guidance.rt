@@ -1,11 +1,6 @@
 //! What no contract says: that the advice is the one that is meant.
-
-use crate::cone::Near;
-use crate::ordering::Order;
-use crate::pace::Pace;
-use crate::uses::Uses;
-use crate::watches::Watches;
 use cnf_store::{Arena, Clauses, Joined, Value};
+use sat_guide::{Near, Order, Pace, Uses, Watches};
 use std::alloc::{AllocError, Global};
 use std::test::Fail;
 
