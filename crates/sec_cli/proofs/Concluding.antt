@@ -181,4 +181,4 @@ no_memory_journal tells files None = refl
 no_memory_journal tells files (Some (ForCheck c)) = (Err refusals.Memory, (λ _. tt), refl)
 no_memory_journal tells files (Some (ForReplay c)) = (Err refusals.Memory, (λ _. tt), refl)
 no_memory_journal tells files (Some (ForVerify c)) = (Err refusals.Memory, (λ _. tt), refl)
-no_memory_journal tells files (Some (ForDemo d)) = (Err refusals.Memory, (λ _. tt), refl)
+no_memory_journal tells files (Some (ForDemo d)) = (Err refusals.Memory, tt, refl)

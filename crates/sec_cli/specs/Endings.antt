@@ -151,13 +151,6 @@ abbrev pub journal_of : Ending → Option Written
 journal_of (Ok a) = a.journal
 journal_of (Err r) = None
 
--- how a command ends over these files
-abbrev pub IsEnding : (List ℕ → Option (List ℕ)) → Asked → Ending → Type 0
-IsEnding file (ForCheck c) e = IsCheckEnding (file c.left) (file c.right) c e
-IsEnding file (ForReplay c) e = IsReplayEnding (file c.left) (file c.right) (file c.trace) e
-IsEnding file (ForVerify c) e = IsVerifyEnding (file c.left) (file c.right) (file c.cert) e
-IsEnding file (ForDemo d) e = IsDemoEnding d e
-
 abbrev pub unread_as : Side → Unread → Unpaired
 unread_as side unread.Failed = unpaired.LoadFailed side
 unread_as side (unread.Refused f) = unpaired.Refused side f

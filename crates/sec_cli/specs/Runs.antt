@@ -4,13 +4,16 @@ use Rattle.sec_base.specs.Faults.{appended}
 use Rattle.refine_board.specs.Running.{Written}
 use Rattle.sec_cli.specs.declared.ending.Answer.{Answer}
 use Rattle.sec_cli.specs.declared.ending.Refusal.{Refusal}
-use Rattle.command_line.specs.Asked.{Asked}
-use Rattle.sec_cli.specs.Endings.{Ending, IsEnding, refines, journal_of, left_name, right_name, third_name, failed_names}
+use Rattle.command_line.specs.Asked.{Asked, ForCheck, ForReplay, ForVerify, ForDemo}
+use Rattle.sec_cli.specs.Endings.{Ending, IsCheckEnding, IsReplayEnding, IsVerifyEnding, IsDemoEnding, refines, journal_of, left_name, right_name, third_name, failed_names}
 use Rattle.sec_cli.specs.Reports.{World, IsTold, IsStored, IsUnprinted, IsUnstoredAs, store_name, refusal_status, told_of}
 
--- how the command ended, where the shelf tells its files
+-- how the command ended over these files, where the shelf tells them; a demo reads none
 abbrev pub Ended : Bool → (List ℕ → Option (List ℕ)) → Asked → Ending → Type 0
-Ended tells file c e = IsTrue tells → IsEnding file c e
+Ended tells file (ForCheck c) e = IsTrue tells → IsCheckEnding (file c.left) (file c.right) c e
+Ended tells file (ForReplay c) e = IsTrue tells → IsReplayEnding (file c.left) (file c.right) (file c.trace) e
+Ended tells file (ForVerify c) e = IsTrue tells → IsVerifyEnding (file c.left) (file c.right) (file c.cert) e
+Ended tells file (ForDemo d) e = IsDemoEnding d e
 
 -- the journal is that of the command's answer, and there is none where the command answered nothing
 abbrev pub IsJournalOfEnding : Bool → (List ℕ → Option (List ℕ)) → Asked → Option Written → Type 0

@@ -6,9 +6,9 @@ ghost use Rattle.command_line.specs.Meant.{meant, AreNoCommand};
 ghost use Rattle.command_line.specs.Plain.{texts};
 ghost use Rattle.sec_cli.specs.Answers.{is_refined};
 ghost use Rattle.sec_cli.specs.Texts.{usage_text, memory_text};
-ghost use Rattle.sec_cli.specs.Endings.{Ending, IsCheckEnding, IsReplayEnding, IsVerifyEnding, IsDemoEnding, IsEnding, IsLoadEnding, refines, journal_of, failed_names, left_name, right_name, third_name};
+ghost use Rattle.sec_cli.specs.Endings.{Ending, IsCheckEnding, IsReplayEnding, IsVerifyEnding, IsDemoEnding, IsLoadEnding, refines, journal_of, failed_names, left_name, right_name, third_name};
 ghost use Rattle.sec_cli.specs.Reports.{IsTold, IsReport, refusal_status, told_of};
-ghost use Rattle.sec_cli.specs.Runs.{IsAnswered, IsJournalOfWords, IsRefused, IsUnread, IsUnwritten};
+ghost use Rattle.sec_cli.specs.Runs.{Ended, IsAnswered, IsJournalOfWords, IsRefused, IsUnread, IsUnwritten};
 
 use crate::checking::check_pair;
 use crate::delivering::deliver;
@@ -30,8 +30,8 @@ use std::thread::Threads;
 #[derive(Drop)]
 pub struct Report {
     pub status: u8,
-    /// The journal of the refinement: with 0 and 2 of `check` and `demo`, with 6 where their verdict isn't a difference, and
-    /// with 7 where that verdict's file found no memory.
+    /// The journal of the refinement, with 0 and 2 of `check` and `demo`, and with 6 where their verdict isn't a difference.
+    /// With 7 it may be there, where the file of such a verdict found no memory.
     pub journal: Option<Journal>,
 }
 
@@ -144,7 +144,7 @@ fn decide<R: Threads + Wait + Sync, S: Shelf, G: Gate>(
     gate: &G,
 ) -> Result<Answer, Refusal>
     requires { IsWithin (asked_of command) }
-    ensures ending { IsTrue S.tells → IsEnding (S.file shelf.old) (asked_of command.entry) result }
+    ensures ending { Ended S.tells (S.file shelf.old) (asked_of command.entry) result }
     ensures status { IfOk result (λ a. a.status ≤ 2) }
     ensures journal { IfOk result (λ a. is_some a.journal ≡ refines (asked_of command.entry) a.status) }
     ensures failed { IsLoadEnding result → Rose (S.load_faults shelf.old) (S.load_faults shelf.new) }
@@ -200,7 +200,7 @@ fn perform<R: Threads + Wait + Sync, S: Shelf, O: Sink, E: Sink, G: Gate>(
     gate: &G,
 ) -> Report
     requires { IsWithin (asked_of command) }
-    ensures reported { (e : Ending) × (IsTrue S.tells → IsEnding (S.file shelf.old) (asked_of command.entry) e) × IfOk e (λ a. a.status ≤ 2)
+    ensures reported { (e : Ending) × Ended S.tells (S.file shelf.old) (asked_of command.entry) e × IfOk e (λ a. a.status ≤ 2)
         × IfOk e (λ a. is_some a.journal ≡ refines (asked_of command.entry) a.status) × (result.journal ≡ journal_of e)
         × (IsLoadEnding e → Rose (S.load_faults shelf.old) (S.load_faults shelf.new))
         × (S.failed shelf.new ≡ appended (S.failed shelf.old) (failed_names (left_name (asked_of command.entry)) (right_name (asked_of command.entry)) (third_name (asked_of command.entry)) e))
@@ -271,7 +271,7 @@ pub fn run<R: Threads + Wait + Sync, S: Shelf, O: Sink, E: Sink, G: Gate>(
         (record { files = S.file shelf.new; store_faults = S.store_faults shelf.new; out = O.taken out.new; out_faults = O.faults out.new; err = E.taken err.new; err_faults = E.faults err.new })) }
     ensures told_memory { result.status ≡ 7 → IsTold (E.taken err.old) (E.faults err.old) memory_text (E.taken err.new) (E.faults err.new) }
 
-    // Without an answer there is no journal. Want of memory comes before or after it.
+    // Without an answer there is no journal. Want of memory comes before an answer, and then there is none, or after it.
     ensures no_journal { 3 ≤ result.status → result.status ≤ 5 → result.journal ≡ None }
     ensures last_journal { result.status ≡ 7 → IsJournalOfWords S.tells (S.file shelf.old) (meant (texts words.now)) result.journal }
 
