@@ -1,5 +1,5 @@
--- Pairs that are counted, place by place, and entries that are added.
-use Rattle.std.proofs.Common.{◌≡◌, ◌∙◌, ◌<◌, ◌+◌, ℕ, Bool, true, false, not, List, [], ◌∷◌, ◌++◌, length, set, refl, ap, sym, subst, arith, ⊎_elim, slice_index_or, get_or-set_same, get_or-set_other}
+-- Pairs that are counted, place by place.
+use Rattle.std.proofs.Common.{◌≡◌, ◌∙◌, ◌<◌, ◌+◌, ℕ, Bool, true, false, not, List, length, set, refl, ap, sym, subst, arith, ⊎_elim, slice_index_or, get_or-set_same, get_or-set_other}
 use Rattle.std.proofs.lemmas.Bool.{cases_eq}
 use Rattle.class_partition.specs.Classes.{IsNeeded, class_count, needed}
 use Rattle.class_partition.specs.declared.classes.Needed.{Needed}
@@ -7,14 +7,11 @@ use Rattle.refine_board.specs.declared.marks.Mark.TheVariants.{Open, Out, Proved
 use Rattle.refine_board.specs.declared.journal.Step.TheVariants.{Counted, Offered}
 use Rattle.refine_board.specs.States.{State, mark_of, called, cleared, marked, offered}
 use Rattle.refine_board.specs.Schedules.{Does}
-use Rattle.refine_board.specs.declared.journal.Entry.{Entry}
 use Rattle.refine_board.specs.declared.answers.Cut.{Cut}
 use Rattle.refine_board.specs.declared.answers.Cut.TheVariants as cut_as
 use Rattle.refine_board.specs.Answers.{cut_step}
-use Rattle.refine_board.specs.Running.{Running, Appends, AreCountedBelow, IsExtended}
+use Rattle.refine_board.specs.Running.{Running, Appends, AreCountedBelow}
 use Rattle.verdict_stamp.specs.Versions.{Separates}
-use Rattle.std.proofs.lemmas.List.{append-nil, append_assoc}
-use Rattle.std.proofs.lemmas.List.Elements.{All-nil, All-append, All-push}
 
 pub counted_more : (places : ℕ) (board : State) (p : ℕ) → AreCountedBelow places board p → (IsNeeded places board.classes p → mark_of board p ≡ Proved) → AreCountedBelow places board (p + 1)
 counted_more places board p below here m lt need = ⊎_elim
@@ -41,7 +38,7 @@ offered_below places party p before after does below =
     let at_new : AreCountedBelow places new p.member = λ m lt need. get_or-set_other before.marks p.member m Out Open (λ (e : m ≡ p.member). omega (arith, e, lt)) ∙ below m lt need in
     (ap (λ (b : State). b.classes) does.1, subst (λ (b : State). AreCountedBelow places b p.member) (sym does.1) at_new)
 
-not_both : (a b : Bool) → a ≡ b → a ≡ not b → ⊥
+pub not_both : (a b : Bool) → a ≡ b → a ≡ not b → ⊥
 not_both true true e f = cc
 not_both true false e f = cc
 not_both false true e f = cc
@@ -57,16 +54,3 @@ cut_grows places party m (cut_as.Split n) bits before after ((inside, call, (cla
 cut_grows places party m cut_as.Already bits before after ((inside, call, (holds, e)), entries) own lt apart =
     absurd (not_both _ _ (holds m lt) apart)
 cut_grows places party m cut_as.Foreign bits before after appends own lt apart = absurd (own refl)
-
-abbrev Is : ℕ → Entry → Type 0
-Is party e = e.worker ≡ party
-
-pub extended_none : (party : ℕ) (xs ys : List Entry) → ys ≡ xs → IsExtended party xs ys
-extended_none party xs ys e = ([], e ∙ sym (append-nil xs), All-nil (Is party))
-
-pub extended_more : (party : ℕ) (xs ys zs : List Entry) → IsExtended party xs ys → IsExtended party ys zs → IsExtended party xs zs
-extended_more party xs ys zs (a, is_a, all_a) (b, is_b, all_b) =
-    (a ++ b, is_b ∙ ap (λ (l : List Entry). l ++ b) is_a ∙ append_assoc xs a b, All-append (Is party) a b all_a all_b)
-
-pub extended_one : (party : ℕ) (xs ys : List Entry) (e : Entry) → ys ≡ xs ++ e ∷ [] → e.worker ≡ party → IsExtended party xs ys
-extended_one party xs ys e is own = (e ∷ [], is, All-push (Is party) [] e (All-nil (Is party)) own)

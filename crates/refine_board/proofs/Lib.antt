@@ -9,3 +9,4 @@ pub mod Judged
 pub mod Dividing
 pub mod Replaying
 pub mod Counting
+pub mod Alone

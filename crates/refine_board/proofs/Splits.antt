@@ -14,7 +14,8 @@ use Rattle.refine_board.specs.Schedules.{Does, IsAllowed, Leads, IsSupported}
 use Rattle.refine_board.specs.Tallies.{is_split, split_entries}
 use Rattle.circ_model.proofs.Greatest.{may_split_agrees}
 use Rattle.class_partition.proofs.Partition.{taken_apart}
-use Rattle.class_partition.proofs.SameClasses.{undivided, same_of_greatest}
+use Rattle.refine_board.specs.Laws.{AreAlike}
+use Rattle.class_partition.proofs.SameClasses.{undivided, same_classes, same_of_greatest, together_in_classes, together_in_greatest}
 use Rattle.class_partition.proofs.ClassCount.{count_most, count_positive}
 use Rattle.circ_model.proofs.Rows.{some_place}
 use Rattle.refine_board.proofs.Supported.{always_supported, done_is_greatest, greatest_undivided, after_event}
@@ -131,6 +132,23 @@ same_end pair k xs ys a a' b b' is_a is_b phase leads_a leads_b done_a done_b =
     let sa = always_supported pair k xs a a' leads_a is_a in
     let sb = always_supported pair k ys b b' leads_b is_b in
     same_of_greatest pair k a'.classes b'.classes sa.partition sb.partition (phases_stay pair k xs a a' leads_a ∙ phase ∙ sym (phases_stay pair k ys b b' leads_b)) (done_is_greatest pair k a' sa done_a) (done_is_greatest pair k b' sb done_b)
+
+-- and from whatever openings, classes that are alike
+pub alike_end : (pair : Pair) (k : ℕ) (xs ys : List Entry) (a a' b b' : State) → IsSupported pair k a → IsSupported pair k b
+    → Leads pair k a xs a' → Leads pair k b ys b' → AllCounted (places_of pair) a' → AllCounted (places_of pair) b' → AreAlike (places_of pair) a'.classes b'.classes
+alike_end pair k xs ys a a' b b' is_a is_b leads_a leads_b done_a done_b =
+    let sa = always_supported pair k xs a a' leads_a is_a in
+    let sb = always_supported pair k ys b b' leads_b is_b in
+    let of_a = done_is_greatest pair k a' sa done_a in
+    let of_b = done_is_greatest pair k b' sb done_b in
+    let other : Classes = record { least = b'.classes.least; phase = a'.classes.phase } in
+    let is_other : ArePartition (places_of pair) other = record { least_len = sb.partition.least_len; phase_len = sa.partition.phase_len; lower = sb.partition.lower; fixed = sb.partition.fixed } in
+    let same : a'.classes ≡ other = same_classes (places_of pair) a'.classes other sa.partition is_other refl
+    (λ p q lp lq h. together_in_classes pair k b'.classes of_b.keeps p q (together_in_greatest pair k a'.classes of_a p q lp lq h))
+    (λ p q lp lq h. together_in_classes pair k a'.classes of_a.keeps p q (together_in_greatest pair k b'.classes of_b p q lp lq h)) in (
+      ap (λ (c : Classes). c.least) same,
+      λ x y lx ly. (λ h. of_b.keeps x y (of_a.reaches x y lx ly h), λ h. of_a.keeps x y (of_b.reaches x y lx ly h)),
+    )
 
 -- two places that a split takes apart are together in no correspondence
 pub split_apart : (pair : Pair) (k party : ℕ) (bits : List Bool) (n : ℕ) (before after : State) → IsSupported pair k before → IsAllowed pair k before (Split bits n) → Does (places_of pair) party (Split bits n) before after

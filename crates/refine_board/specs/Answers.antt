@@ -1,5 +1,5 @@
 -- What a call's answer says of its entry.
-use Rattle.std.specs.Prelude.{◌≡◌, ℕ, List, Bool}
+use Rattle.std.specs.Prelude.{◌≡◌, ℕ, List, Bool, Option, Some, None, IfSome}
 use Rattle.circ_model.specs.Meaning.{Pair}
 use Rattle.class_partition.specs.declared.classes.Needed.{Needed}
 use Rattle.refine_board.specs.declared.journal.Step.{Step}
@@ -10,6 +10,7 @@ use Rattle.refine_board.specs.declared.answers.Kept.{Kept}
 use Rattle.refine_board.specs.declared.answers.Kept.TheVariants as kept_as
 use Rattle.refine_board.specs.declared.answers.Cut.{Cut}
 use Rattle.refine_board.specs.declared.answers.Cut.TheVariants as cut_as
+use Rattle.verdict_stamp.specs.Published.{Stamped}
 use Rattle.refine_board.specs.Running.{Running, IsUnder}
 
 -- what a party is answered that asks for work
@@ -30,6 +31,12 @@ IsCurrentOffer pair k before (Offer o) = IsUnder pair k before.state.classes o.s
 IsCurrentOffer pair k before Idle = Unit {0}
 IsCurrentOffer pair k before Done = Unit {0}
 
+-- it has the stamp of the offers since the last split, of which there is one from now on
+abbrev pub HasOneStamp : {L : Type 0} → Running → Running → Take L → Type 0
+HasOneStamp before after (Offer o) = IfSome before.current (λ s. o.stamp ≡ s) × (after.current ≡ Some o.stamp)
+HasOneStamp before after Idle = after.current ≡ before.current
+HasOneStamp before after Done = after.current ≡ before.current
+
 -- what came of a verdict
 abbrev pub kept_step : Kept → Needed → Step
 kept_step kept_as.Counted p = step.Counted p
@@ -40,3 +47,9 @@ abbrev pub cut_step : Cut → List Bool → Step
 cut_step (cut_as.Split n) bits = step.Split bits n
 cut_step cut_as.Already bits = step.Already bits
 cut_step cut_as.Foreign bits = step.Foreign
+
+-- offers after a split have another stamp
+abbrev pub stamp_after : Cut → Option Stamped → Option Stamped
+stamp_after (cut_as.Split n) current = None
+stamp_after cut_as.Already current = current
+stamp_after cut_as.Foreign current = current

@@ -1,8 +1,8 @@
 -- The laws of every schedule, as statements.
-use Rattle.std.specs.Prelude.{◌≡◌, ℕ, ◌+◌, ◌-◌, ◌*◌, ◌/◌, ◌≤◌, List, Bool}
+use Rattle.std.specs.Prelude.{◌≡◌, ◌↔◌, ℕ, ◌+◌, ◌-◌, ◌*◌, ◌/◌, ◌<◌, ◌≤◌, List, Bool}
 use Rattle.circ_model.specs.Meaning.{Pair, places_of}
 use Rattle.circ_model.specs.Correspondence.{Together, IsClassCount}
-use Rattle.class_partition.specs.Classes.{Classes, ArePartition, AreTogether, class_count, KeepsGreatest, AreOfGreatest}
+use Rattle.class_partition.specs.Classes.{Classes, ArePartition, AreTogether, Pairs, class_count, KeepsGreatest, AreOfGreatest}
 use Rattle.refine_board.specs.declared.journal.Step.TheVariants.{Split}
 use Rattle.refine_board.specs.declared.journal.Entry.{Entry}
 use Rattle.refine_board.specs.States.{State, AllCounted}
@@ -39,9 +39,14 @@ NoLaterSplit = (pair : Pair) (k : ℕ) (opening : State) (entries more : List En
 abbrev pub FewSplits : Type 0
 FewSplits = (pair : Pair) (k : ℕ) (opening : State) (entries : List Entry) (board : State) → IsSchedule pair k opening entries board → split_entries entries + 1 ≤ places_of pair
 
+-- classes with the same least places, which pair the same literals of the pair's places
+abbrev pub AreAlike : ℕ → Classes → Classes → Type 0
+AreAlike places a b = (a.least ≡ b.least) × ((x y : ℕ) → x / 2 < places → y / 2 < places → Pairs a x y ↔ Pairs b x y)
+
+-- two lists after which each pair is counted, from whatever openings, end at classes that are alike; by the same phases they are equal
 abbrev pub SameEnd : Type 0
-SameEnd = (pair : Pair) (k : ℕ) (a b : State) (xs ys : List Entry) (a_end b_end : State) → a.classes.phase ≡ b.classes.phase → IsSchedule pair k a xs a_end → IsSchedule pair k b ys b_end
-    → AllCounted (places_of pair) a_end → AllCounted (places_of pair) b_end → a_end.classes ≡ b_end.classes
+SameEnd = (pair : Pair) (k : ℕ) (a b : State) (xs ys : List Entry) (a_end b_end : State) → IsSchedule pair k a xs a_end → IsSchedule pair k b ys b_end
+    → AllCounted (places_of pair) a_end → AllCounted (places_of pair) b_end → AreAlike (places_of pair) a_end.classes b_end.classes × (a.classes.phase ≡ b.classes.phase → a_end.classes ≡ b_end.classes)
 
 abbrev pub FewOffers : Type 0
 FewOffers = (pair : Pair) (k : ℕ) (opening : State) (entries : List Entry) (board : State) → IsSchedule pair k opening entries board

@@ -1,6 +1,5 @@
 -- What is true of a running board at every moment, and what a call adds.
 use Rattle.std.specs.Prelude.{◌≡◌, ℕ, ◌+◌, ◌<◌, ◌≤◌, List, [], ◌∷◌, ◌++◌, ◌^◌, length, slice_index, slice_index_or, set, ◌≢◌, ◌==◌, if◌then◌else◌, Option, Some, None, IfSome}
-use Rattle.std.specs.List.{All}
 use Rattle.boxcar.specs.Table.{Shelves, Shows}
 use Rattle.circ_model.specs.Meaning.{Pair, places_of}
 use Rattle.circ_model.specs.Correspondence.{MaySplit}
@@ -23,11 +22,12 @@ pub record Written : Type 0 where
   pub entries : List Entry
   pub room : ℕ
 
--- a running board: its state, its journal, and the room in it that no answer is owed
+-- a running board: its state, its journal, the room in it that no answer is owed, and the stamp of the offers that were made since the last split
 pub record Running : Type 0 where
   pub state : State
   pub entries : List Entry
   pub room : ℕ
+  pub current : Option Stamped
 
 -- the journal is legal and leads from the opening to the state
 pub record IsRunning (pair : Pair) (k workers : ℕ) (opening state : State) (entries : List Entry) : Type 0 where
@@ -72,10 +72,6 @@ next_entry state party step = record { worker = party; call = slice_index state.
 -- one entry more, and its step
 abbrev pub Appends : ℕ → Running → Running → ℕ → Step → Type 0
 Appends places before after party step = IsStep places (next_entry before.state party step) before.state after.state × (after.entries ≡ before.entries ++ next_entry before.state party step ∷ [])
-
--- entries of this party were added
-abbrev pub IsExtended : ℕ → List Entry → List Entry → Type 0
-IsExtended party before after = (more : List Entry) × (after ≡ before ++ more) × All (λ (e : Entry). e.worker ≡ party) more
 
 -- a place's pair that a party is to prove under a version
 abbrev pub IsAsked : Standing → Needed → Type 0

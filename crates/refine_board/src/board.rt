@@ -1,14 +1,14 @@
 //! The board that workers share, under a lock, and its calls. Each appends one entry to the journal, with the party's next
 //! number and its answer, and changes the state as that entry does; between the calls the journal is legal, and leads from
 //! the opening to the state.
-ghost use Rattle.std.specs.Prelude.{◌≡◌, ◌≢◌, ◌<◌, ◌≤◌, ◌+◌, ◌^◌, ◌↔◌, [], ℕ, IsTrue, IfOk, OnErr, true, false};
+ghost use Rattle.std.specs.Prelude.{◌≡◌, ◌≢◌, ◌<◌, ◌≤◌, ◌+◌, ◌^◌, ◌↔◌, [], ℕ, IsTrue, IfOk, OnErr, None, true, false};
 ghost use Rattle.boxcar.specs.Table.{Shows};
 ghost use Rattle.circ_model.specs.Meaning.{places_of};
 ghost use Rattle.class_partition.specs.Classes.{AreOfGreatest};
-ghost use Rattle.refine_board.specs.States.{AllCounted};
+ghost use Rattle.refine_board.specs.States.{AllCounted, NoneOpen, SomeOut};
 ghost use Rattle.refine_board.specs.Schedules.{Leads, opened};
 ghost use Rattle.refine_board.specs.Running.{Appends, IsAbout, IsUnder, IsOf};
-ghost use Rattle.refine_board.specs.Answers.{taken, IsCurrentOffer, IsOwnOffer, kept_step, cut_step};
+ghost use Rattle.refine_board.specs.Answers.{taken, IsCurrentOffer, IsOwnOffer, HasOneStamp, kept_step, cut_step, stamp_after};
 ghost use Rattle.verdict_stamp.specs.Published.{IsStampOf};
 
 use crate::answers::{Cut, Kept, Offer, Take};
@@ -23,8 +23,8 @@ use std::sync::ledger::{Blank, Book, Share};
 use verdict_stamp::{Stamp, Vector, Verdict, Version, Versions};
 
 /// The shared board of a run. Its parties are the workers, and one more that works alone at the end. Contracts see its state,
-/// its journal's entries, and the room in the journal that no answer is owed. Its version, as it stands, is published once
-/// between two splits: a copy in the run's list, which offers name by its stamp.
+/// its journal's entries, the room in the journal that no answer is owed, and the stamp of the offers since the last split. Its
+/// version, as it stands, is published once between two splits: a copy in the run's list, which offers name by its stamp.
 #[derive(Drop)]
 pub struct Board<'v, 'p, L: Run> {
     pub(crate) alloc: Global,
@@ -49,7 +49,7 @@ impl<'v, 'p, L: Run> Model for Board<'v, 'p, L> {
 
     ghost Value = { Running };
 
-    ghost view = { λ b. record { state = state_of b.version b.marks.items b.calls.items b.offers.items; entries = b.journal.entries; room = b.journal.room - b.owed.total } };
+    ghost view = { λ b. record { state = state_of b.version b.marks.items b.calls.items b.offers.items; entries = b.journal.entries; room = b.journal.room - b.owed.total; current = b.current } };
 
     ghost invariant = { λ b. IsRunning L.pair L.k L.workers L.opening (state_of b.version b.marks.items b.calls.items b.offers.items) b.journal.entries
         × IsOfRun L.pair L.k L.workers L.opening b.version b.first L.list b.versions.now b.current
@@ -73,7 +73,7 @@ impl<'v, 'p, L: Run> Board<'v, 'p, L> {
         requires workers { workers ≡ L.workers }
         requires opening { L.opening ≡ opened L.pair L.workers first.classes first.number }
         requires list { L.list ≡ versions.now }
-        ensures { IfOk result (λ b. (b.state ≡ L.opening) × (b.entries ≡ [])) }
+        ensures { IfOk result (λ b. (b.state ≡ L.opening) × (b.entries ≡ []) × (b.current ≡ None)) }
     {
         let version = first.copy(alloc)?;
         let places = first.classes().len();
@@ -100,13 +100,14 @@ impl<'v, 'p, L: Run> Board<'v, 'p, L> {
     }
 
     /// Gives the party the open pair with the least member, or says why there is none. It makes the room of the answer's
-    /// entry too, so the answers below take no memory. The first offer after a split publishes the version; an `Err` is want
-    /// of memory.
+    /// entry too, so the answers below take no memory. The first offer after a split publishes the version, and all up to the
+    /// next split have its stamp. An `Err` is want of memory.
     pub fn take(&mut self, rt: &impl Wait, party: u32) -> Result<Take<'p, L>, AllocError>
         requires party { party < L.workers + 1 }
         ensures ok { IfOk result (λ t. Appends (places_of L.pair) self.old self.new party (taken t) × IsOwnOffer self.old party t) }
         ensures version { IfOk result (IsCurrentOffer L.pair L.k self.old) }
-        ensures err { OnErr result ((self.new.state ≡ self.old.state) × (self.new.entries ≡ self.old.entries)) }
+        ensures one_stamp { IfOk result (HasOneStamp self.old self.new) }
+        ensures err { OnErr result ((self.new.state ≡ self.old.state) × (self.new.entries ≡ self.old.entries) × (self.new.current ≡ self.old.current)) }
     {
         self.spare()?;
         let at = self.seek();
@@ -133,6 +134,7 @@ impl<'v, 'p, L: Run> Board<'v, 'p, L> {
         requires about { IsAbout verdict.now offer.pair }
         requires stamp { IsStampOf L.list stamp.now verdict.now.version }
         ensures step { Appends (places_of L.pair) self.old self.new offer.entry.party (kept_step result offer.entry.pair) }
+        ensures current { self.new.current ≡ self.old.current }
         ensures counted { result ≡ Kept.Counted → IsUnder L.pair L.k self.old.state.classes verdict.now.version }
         ensures stale { result ≡ Kept.Stale → IsUnder L.pair L.k self.old.state.classes verdict.now.version → ⊥ }
     {
@@ -150,6 +152,7 @@ impl<'v, 'p, L: Run> Board<'v, 'p, L> {
     /// each needed pair. Nothing splits the classes of the greatest correspondence.
     pub fn split(&mut self, offer: Offer<'p, L>, vector: Vector<'_>) -> Cut
         ensures step { Appends (places_of L.pair) self.old self.new offer.entry.party (cut_step result vector.entry.bits) }
+        ensures current { self.new.current ≡ stamp_after result self.old.current }
         ensures own { result ≢ Cut.Foreign → IsOf L.pair L.k vector.entry }
         ensures foreign { result ≡ Cut.Foreign → IsOf L.pair L.k vector.entry → ⊥ }
         ensures stays { AreOfGreatest L.pair L.k self.old.state.classes → self.new.state.classes ≡ self.old.state.classes }
@@ -167,6 +170,7 @@ impl<'v, 'p, L: Run> Board<'v, 'p, L> {
     pub fn split_own(&mut self, offer: Offer<'p, L>, vector: Vector<'_>) -> Cut
         requires own { IsOf L.pair L.k vector }
         ensures step { Appends (places_of L.pair) self.old self.new offer.entry.party (cut_step result vector.entry.bits) }
+        ensures current { self.new.current ≡ stamp_after result self.old.current }
         ensures own { result ≢ Cut.Foreign }
         ensures stays { AreOfGreatest L.pair L.k self.old.state.classes → self.new.state.classes ≡ self.old.state.classes }
     {
@@ -176,7 +180,8 @@ impl<'v, 'p, L: Run> Board<'v, 'p, L> {
 
     /// Gives the work back.
     pub fn back(&mut self, offer: Offer<'p, L>)
-        ensures { Appends (places_of L.pair) self.old self.new offer.entry.party (Step.Back offer.entry.pair) }
+        ensures step { Appends (places_of L.pair) self.old self.new offer.entry.party (Step.Back offer.entry.pair) }
+        ensures current { self.new.current ≡ self.old.current }
     {
         let (party, pair) = self.settle(offer.into_debt());
         self.free(party, Step::Back(pair));
@@ -244,6 +249,17 @@ impl<'v, 'p, L: Run> Board<'v, 'p, L> {
             return false;
         }
         !self.is_some_out()
+    }
+
+    /// Whether no pair is open, and some is out: there is nothing to take before another party answers.
+    pub fn is_idle(&self) -> bool
+        ensures yes { result ≡ true → NoneOpen (places_of L.pair) self.now.state × SomeOut (places_of L.pair) self.now.state }
+        ensures no { result ≡ false → NoneOpen (places_of L.pair) self.now.state → SomeOut (places_of L.pair) self.now.state → ⊥ }
+    {
+        if self.is_some_open() {
+            return false;
+        }
+        self.is_some_out()
     }
 
     /// The version as it stands, and the journal, which leads to it from the opening.

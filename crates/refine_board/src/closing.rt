@@ -1,14 +1,58 @@
 //! Work on one thread until each needed pair is counted. The frames of the questions are made once for each version.
-ghost use Rattle.std.specs.Prelude.{◌≡◌, ◌≢◌, ◌<◌, ◌≤◌, ◌+◌, ℕ, IfOk, OnErr, true, false};
+ghost use Rattle.std.specs.Prelude.{◌≡◌, ◌≢◌, ◌<◌, ◌≤◌, ◌+◌, ◌^◌, ℕ, IfOk, None, true, false, length};
 ghost use Rattle.circ_model.specs.Meaning.{places_of};
-ghost use Rattle.class_partition.specs.Classes.{AreOfGreatest, IsNeeded, class_count};
-ghost use Rattle.refine_board.specs.States.{AllCounted};
-ghost use Rattle.refine_board.specs.Running.{AreCountedBelow, IsExtended, IsUnder};
+ghost use Rattle.class_partition.specs.Classes.{AreOfGreatest, IsNeeded, class_count, needed};
+ghost use Rattle.refine_board.specs.States.{AllCounted, IsNeededPair, offer_of};
+ghost use Rattle.refine_board.specs.Running.{AreCountedBelow, IsAbout, IsCountedAt, IsOf, IsUnder};
+ghost use Rattle.refine_board.specs.Closings.{Closes};
+ghost use Rattle.verdict_stamp.specs.Versions.{Separates};
 
 use crate::board::Board;
 use crate::run::Run;
+use class_partition::Needed;
 use std::alloc::{AllocError, Global};
-use verdict_stamp::{Proof, Prover};
+use verdict_stamp::{Proof, Prover, Vector, Verdict};
+
+// Counts a wanted pair, which the party takes first where it is open.
+fn count_pair<L: Run>(
+    board: &mut Board<'_, '_, L>,
+    party: u32,
+    pair: Needed,
+    verdict: &Verdict<'_, '_>,
+)
+    requires party { party < L.workers + 1 }
+    requires pair { IsNeededPair (places_of L.pair) board.old.state.classes pair }
+    requires wanted { IsCountedAt board.old.state pair.member → ⊥ }
+    requires below { AreCountedBelow (places_of L.pair) board.old.state pair.member }
+    requires about { IsAbout verdict.now pair }
+    requires current { IsUnder L.pair L.k board.old.state.classes verdict.now.version }
+    requires room { 2 ≤ board.old.room }
+    requires few { length board.old.entries < 2 ^ 60 }
+    ensures closes { Closes (places_of L.pair) party board.old board.new }
+    ensures classes { board.new.state.classes ≡ board.old.state.classes }
+    ensures below { AreCountedBelow (places_of L.pair) board.new.state (pair.member + 1) }
+{
+    board.claim(party, pair);
+    let _places = board.places();
+    board.count(party, pair, verdict);
+}
+
+// Splits the classes by a vector that separates a wanted pair, which the party takes first where it is open.
+fn cut_pair<L: Run>(board: &mut Board<'_, '_, L>, party: u32, pair: Needed, vector: Vector<'_>)
+    requires party { party < L.workers + 1 }
+    requires pair { IsNeededPair (places_of L.pair) board.old.state.classes pair }
+    requires wanted { IsCountedAt board.old.state pair.member → ⊥ }
+    requires below { AreCountedBelow (places_of L.pair) board.old.state pair.member }
+    requires own { IsOf L.pair L.k vector }
+    requires separates { Separates vector.bits (needed board.old.state.classes pair.member) }
+    requires room { 2 ≤ board.old.room }
+    requires few { length board.old.entries < 2 ^ 60 }
+    ensures closes { Closes (places_of L.pair) party board.old board.new }
+    ensures split { class_count (places_of L.pair) board.old.state.classes < class_count (places_of L.pair) board.new.state.classes }
+{
+    board.claim(party, pair);
+    board.cut(party, vector);
+}
 
 // Proves the pair of a place, and writes what came of it. Answers whether the classes were split.
 fn decide<L: Run>(
@@ -21,8 +65,9 @@ fn decide<L: Run>(
     requires party { party < L.workers + 1 }
     requires current { IsUnder L.pair L.k board.old.state.classes prover.now }
     requires needed { IsNeeded (places_of L.pair) board.old.state.classes member }
+    requires wanted { IsCountedAt board.old.state member → ⊥ }
     requires below { AreCountedBelow (places_of L.pair) board.old.state member }
-    ensures entries { IsExtended party board.old.entries board.new.entries }
+    ensures closes { Closes (places_of L.pair) party board.old board.new }
     ensures split { IfOk result (λ s. s ≡ true → class_count (places_of L.pair) board.old.state.classes < class_count (places_of L.pair) board.new.state.classes) }
     ensures counted { IfOk result (λ s. s ≡ false → (board.new.state.classes ≡ board.old.state.classes) × AreCountedBelow (places_of L.pair) board.new.state (member + 1)) }
 {
@@ -30,14 +75,11 @@ fn decide<L: Run>(
     let pair = board.pair_at(member);
     match prover.prove(alloc, pair)? {
         Proof::Holds(verdict) => {
-            board.claim(party, member);
-            let _places = board.places();
-            board.count(party, pair, &verdict);
+            count_pair(board, party, pair, &verdict);
             Ok(false)
         }
         Proof::Splits(vector) => {
-            board.claim(party, member);
-            board.cut(party, vector);
+            cut_pair(board, party, pair, vector);
             Ok(true)
         }
     }
@@ -55,7 +97,7 @@ fn visit<L: Run>(
     requires current { IsUnder L.pair L.k board.old.state.classes prover.now }
     requires place { member < places_of L.pair }
     requires below { AreCountedBelow (places_of L.pair) board.old.state member }
-    ensures entries { IsExtended party board.old.entries board.new.entries }
+    ensures closes { Closes (places_of L.pair) party board.old board.new }
     ensures split { IfOk result (λ s. s ≡ true → class_count (places_of L.pair) board.old.state.classes < class_count (places_of L.pair) board.new.state.classes) }
     ensures counted { IfOk result (λ s. s ≡ false → (board.new.state.classes ≡ board.old.state.classes) × AreCountedBelow (places_of L.pair) board.new.state (member + 1)) }
 {
@@ -68,7 +110,7 @@ fn visit<L: Run>(
 // One pass over the places. Answers whether the classes were split.
 fn pass<L: Run>(board: &mut Board<'_, '_, L>, alloc: Global, party: u32) -> Result<bool, AllocError>
     requires party { party < L.workers + 1 }
-    ensures entries { IsExtended party board.old.entries board.new.entries }
+    ensures closes { Closes (places_of L.pair) party board.old board.new }
     ensures split { IfOk result (λ s. s ≡ true → class_count (places_of L.pair) board.old.state.classes < class_count (places_of L.pair) board.new.state.classes) }
     ensures counted { IfOk result (λ s. s ≡ false → AllCounted (places_of L.pair) board.new.state) }
 {
@@ -82,15 +124,17 @@ fn pass<L: Run>(board: &mut Board<'_, '_, L>, alloc: Global, party: u32) -> Resu
     Ok(false)
 }
 
-/// Works until each needed pair is counted, as one party. What is open it takes and answers; a pair that is out it proves too,
-/// and writes that answer as its own.
+/// Works until each needed pair is counted, as one party. What is open it takes and answers at once; a pair that is out it proves
+/// too, and writes that answer as its own. A pair is proved before it is taken, so an `Err`, which is want of memory, leaves no
+/// offer of the party unanswered.
 pub fn finish<L: Run>(
     board: &mut Board<'_, '_, L>,
     alloc: Global,
     party: u32,
 ) -> Result<(), AllocError>
     requires party { party < L.workers + 1 }
-    ensures entries { IsExtended party board.old.entries board.new.entries }
+    ensures closes { Closes (places_of L.pair) party board.old board.new }
+    ensures settled { offer_of board.old.state party ≡ None → offer_of board.new.state party ≡ None }
     ensures counted { IfOk result (λ _. AllCounted (places_of L.pair) board.new.state) }
     ensures greatest { IfOk result (λ _. AreOfGreatest L.pair L.k board.new.state.classes) }
 {

@@ -1,11 +1,12 @@
 //! The steps of a board, one for each entry: each changes the state and writes its entry.
-ghost use Rattle.std.specs.Prelude.{◌≡◌, ◌≢◌, ◌<◌, ◌≤◌, ◌+◌, ◌^◌, ℕ, IsTrue, ◌↔◌, length, IfOk, OnOk, true, false};
+ghost use Rattle.std.specs.Prelude.{◌≡◌, ◌≢◌, ◌<◌, ◌≤◌, ◌+◌, ◌^◌, ℕ, IsTrue, ◌↔◌, length, IfOk, IfSome, OnOk, OnErr, Some, true, false};
 ghost use Rattle.boxcar.specs.Table.{Shows};
 ghost use Rattle.circ_model.specs.Meaning.{places_of};
 ghost use Rattle.class_partition.specs.Classes.{AreOfGreatest, IsNeeded, class_count};
 ghost use Rattle.refine_board.specs.States.{IsNeededPair, IsOpen, NoneOpen, SomeOut, AllCounted};
-ghost use Rattle.refine_board.specs.Running.{Appends, AreCountedBelow, Frees, IsAbout, IsCountedAt, IsExtended, IsUnder, IsOf};
-ghost use Rattle.refine_board.specs.Answers.{cut_step};
+ghost use Rattle.refine_board.specs.Running.{Appends, AreCountedBelow, Frees, IsAbout, IsCountedAt, IsUnder, IsOf};
+ghost use Rattle.refine_board.specs.Closings.{IsClaimed};
+ghost use Rattle.refine_board.specs.Answers.{cut_step, stamp_after};
 ghost use Rattle.verdict_stamp.specs.Published.{IsStampOf};
 
 use crate::answers::{Cut, Debt, Offer};
@@ -23,6 +24,7 @@ impl<'v, 'p, L: Run> Board<'v, 'p, L> {
     pub(crate) fn spare(&mut self) -> Result<(), AllocError>
         ensures state { self.new.state ≡ self.old.state }
         ensures entries { self.new.entries ≡ self.old.entries }
+        ensures current { self.new.current ≡ self.old.current }
         ensures ok { OnOk result ((2 ≤ self.new.room) × (length self.old.entries < 2 ^ 60)) }
     {
         let waiting = self.waiting;
@@ -95,7 +97,12 @@ impl<'v, 'p, L: Run> Board<'v, 'p, L> {
 
     // The stamp of the version as it stands. Where it has none, a copy of it is published.
     pub(crate) fn published(&mut self, rt: &impl Wait) -> Result<Stamp<'p>, AllocError>
-        ensures same { self.new ≡ self.old }
+        ensures state { self.new.state ≡ self.old.state }
+        ensures entries { self.new.entries ≡ self.old.entries }
+        ensures room { self.new.room ≡ self.old.room }
+        ensures current { IfOk result (λ s. self.new.current ≡ Some s) }
+        ensures same { IfOk result (λ s. IfSome self.old.current (λ c. s ≡ c)) }
+        ensures err { OnErr result (self.new.current ≡ self.old.current) }
         ensures listed { IfOk result (λ s. Shows L.list s) }
         ensures under { IfOk result (λ s. IsUnder L.pair L.k self.old.state.classes s.value) }
         ensures number { IfOk result (λ s. s.value.number ≡ self.old.state.number) }
@@ -135,6 +142,7 @@ impl<'v, 'p, L: Run> Board<'v, 'p, L> {
         ensures number { result.number ≡ self.old.state.number }
         ensures member { result.pair.member ≡ member }
         ensures room { self.new.room + 2 ≡ self.old.room }
+        ensures current { self.new.current ≡ self.old.current }
     {
         let _written = self.journal.len();
         let pair = self.pair_at(member);
@@ -176,6 +184,7 @@ impl<'v, 'p, L: Run> Board<'v, 'p, L> {
         ensures party { result.party ≡ party }
         ensures number { result.number ≡ self.old.state.number }
         ensures stamp { result.stamp ≡ stamp.entry }
+        ensures current { self.new.current ≡ self.old.current }
     {
         let debt = self.lend(party, member);
         Offer { debt, stamp }
@@ -187,7 +196,8 @@ impl<'v, 'p, L: Run> Board<'v, 'p, L> {
         requires none { NoneOpen (places_of L.pair) self.old.state }
         requires out { SomeOut (places_of L.pair) self.old.state }
         requires room { 1 ≤ self.old.room }
-        ensures { Appends (places_of L.pair) self.old self.new party Step.Idle }
+        ensures step { Appends (places_of L.pair) self.old self.new party Step.Idle }
+        ensures current { self.new.current ≡ self.old.current }
     {
         note(&mut self.calls, &mut self.journal, party, Step::Idle);
     }
@@ -197,7 +207,8 @@ impl<'v, 'p, L: Run> Board<'v, 'p, L> {
         requires party { party < L.workers + 1 }
         requires all { AllCounted (places_of L.pair) self.old.state }
         requires room { 1 ≤ self.old.room }
-        ensures { Appends (places_of L.pair) self.old self.new party Step.Done }
+        ensures step { Appends (places_of L.pair) self.old self.new party Step.Done }
+        ensures current { self.new.current ≡ self.old.current }
     {
         note(&mut self.calls, &mut self.journal, party, Step::Done);
     }
@@ -207,6 +218,7 @@ impl<'v, 'p, L: Run> Board<'v, 'p, L> {
         ensures state { self.new.state ≡ self.old.state }
         ensures entries { self.new.entries ≡ self.old.entries }
         ensures room { self.new.room ≡ self.old.room + 1 }
+        ensures current { self.new.current ≡ self.old.current }
         ensures party { (result.0 ≡ debt.party) × (result.0 < L.workers + 1) }
         ensures pair { result.1 ≡ debt.pair }
     {
@@ -228,7 +240,8 @@ impl<'v, 'p, L: Run> Board<'v, 'p, L> {
         requires party { party < L.workers + 1 }
         requires frees { Frees L.pair L.k self.old.state step }
         requires room { 1 ≤ self.old.room }
-        ensures { Appends (places_of L.pair) self.old self.new party step }
+        ensures step { Appends (places_of L.pair) self.old self.new party step }
+        ensures current { self.new.current ≡ self.old.current }
     {
         let Board {
             version,
@@ -249,7 +262,8 @@ impl<'v, 'p, L: Run> Board<'v, 'p, L> {
         requires about { IsAbout verdict.now pair }
         requires current { IsUnder L.pair L.k self.old.state.classes verdict.now.version }
         requires room { 1 ≤ self.old.room }
-        ensures { Appends (places_of L.pair) self.old self.new party (Step.Counted pair) }
+        ensures step { Appends (places_of L.pair) self.old self.new party (Step.Counted pair) }
+        ensures current { self.new.current ≡ self.old.current }
     {
         let _passed = verdict.member();
         let Board {
@@ -271,6 +285,7 @@ impl<'v, 'p, L: Run> Board<'v, 'p, L> {
         requires room { 1 ≤ self.old.room }
         ensures step { Appends (places_of L.pair) self.old self.new party (cut_step result vector.entry.bits) }
         ensures own { result ≢ Cut.Foreign }
+        ensures current { self.new.current ≡ stamp_after result self.old.current }
         ensures stays { AreOfGreatest L.pair L.k self.old.state.classes → self.new.state.classes ≡ self.old.state.classes }
     {
         let Board {
@@ -302,6 +317,7 @@ impl<'v, 'p, L: Run> Board<'v, 'p, L> {
     pub(crate) fn is_open_at(&self, member: u32) -> bool
         requires needed { IsNeeded (places_of L.pair) self.now.state.classes member }
         ensures yes { result ≡ true → IsOpen (places_of L.pair) self.now.state member }
+        ensures no { result ≡ false → IsOpen (places_of L.pair) self.now.state member → ⊥ }
     {
         self.marks[member as usize] == Mark::Open
     }
@@ -310,6 +326,7 @@ impl<'v, 'p, L: Run> Board<'v, 'p, L> {
     pub(crate) fn is_wanted(&self, member: u32) -> bool
         requires place { member < places_of L.pair }
         ensures yes { result ≡ true → IsNeeded (places_of L.pair) self.now.state.classes member }
+        ensures wanted { result ≡ true → IsCountedAt self.now.state member → ⊥ }
         ensures no { result ≡ false → IsNeeded (places_of L.pair) self.now.state.classes member → IsCountedAt self.now.state member }
     {
         if self.version.classes().rep(member) == member {
@@ -318,20 +335,21 @@ impl<'v, 'p, L: Run> Board<'v, 'p, L> {
         self.marks[member as usize] != Mark::Proved
     }
 
-    // The party takes the pair of a place, where it is open, to answer it at once.
-    pub(crate) fn claim(&mut self, party: u32, member: u32)
+    // The party takes a pair that isn't counted, where it is open, to answer it at once.
+    pub(crate) fn claim(&mut self, party: u32, pair: Needed)
         requires party { party < L.workers + 1 }
-        requires needed { IsNeeded (places_of L.pair) self.old.state.classes member }
-        requires below { AreCountedBelow (places_of L.pair) self.old.state member }
+        requires pair { IsNeededPair (places_of L.pair) self.old.state.classes pair }
+        requires wanted { IsCountedAt self.old.state pair.member → ⊥ }
+        requires below { AreCountedBelow (places_of L.pair) self.old.state pair.member }
         requires room { 2 ≤ self.old.room }
         requires few { length self.old.entries < 2 ^ 60 }
-        ensures classes { self.new.state.classes ≡ self.old.state.classes }
-        ensures below { AreCountedBelow (places_of L.pair) self.new.state member }
-        ensures entries { IsExtended party self.old.entries self.new.entries }
+        ensures claimed { IsClaimed (places_of L.pair) party self.old self.new pair }
+        ensures below { AreCountedBelow (places_of L.pair) self.new.state pair.member }
         ensures room { 1 ≤ self.new.room }
     {
-        if self.is_open_at(member) {
-            let debt = self.lend(party, member);
+        let _places = self.places();
+        if self.is_open_at(pair.member) {
+            let debt = self.lend(party, pair.member);
             self.settle(debt);
         }
     }

@@ -58,7 +58,7 @@ IsAskedOf before after (Work offer) = (offer.party ≡ before.party) × (after �
 IsAskedOf before after Idle = after ≡ before
 IsAskedOf before after Moved = after ≡ before
 IsAskedOf before after Ended = after ≡ record before { ended = 1 }
-IsAskedOf before after Stopped = after.party ≡ before.party
+IsAskedOf before after Stopped = after ≡ before
 
 -- how a run ends: with the classes of the greatest correspondence, and a legal journal that leads to them from the opening; each worker was told once
 -- that each pair is counted, and each offer was answered

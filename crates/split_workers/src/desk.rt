@@ -28,7 +28,7 @@ pub(crate) enum Asked<'p, L: Run> {
     Moved,
     /// Each pair is counted.
     Ended,
-    /// Memory ran out, here or elsewhere.
+    /// Memory ran out, here or elsewhere: the worker is to stop.
     Stopped,
 }
 
@@ -129,10 +129,7 @@ impl<'v, 'p, L: Run, E: Ledger, O: Ledger> Desk<'v, 'p, L, E, O> {
                 end(board, ledgers, seat);
                 Asked::Ended
             }
-            Err(_) => {
-                *stopped = true;
-                Asked::Stopped
-            }
+            Err(_) => Asked::Stopped,
         }
     }
 
@@ -165,10 +162,21 @@ impl<'v, 'p, L: Run, E: Ledger, O: Ledger> Desk<'v, 'p, L, E, O> {
         self.ledgers.pay(seat);
     }
 
-    /// Gives an offer back for want of memory, and stops the run.
+    /// Whether a worker that holds no offer has nothing to do until another answers.
+    pub(crate) fn is_idle(&self) -> bool {
+        !self.stopped && self.board.is_idle()
+    }
+
+    /// Stops the run for want of memory.
+    pub(crate) fn stop(&mut self) {
+        self.stopped = true;
+    }
+
+    /// Stops the run for want of memory, and gives an offer back.
     pub(crate) fn give_back(&mut self, seat: &mut Seat<E, O>, offer: Offer<'p, L>)
         requires party { (offer.party ≡ seat.old.party) × (seat.old.party < L.workers) }
         requires owed { 0 < seat.old.owed }
+        ensures { OwesLess seat.old seat.new }
     {
         self.stopped = true;
         self.board.back(offer);

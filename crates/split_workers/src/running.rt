@@ -78,7 +78,14 @@ fn refine_named<
             requires party { seat.party < L.workers }
             requires fresh { (seat.ended ≡ 0) × (seat.owed ≡ 0) }
             ensures { IfSome result (HasEnded seat.party) }
-        { work(rt, alloc, shared, gate, seat, places) },
+        {
+            let mut seat = seat;
+            if work(rt, alloc, shared, gate, &mut seat, places) {
+                Some(seat)
+            } else {
+                None
+            }
+        },
     )?;
     let Some((version, journal)) = room.close(told) else {
         return Err(AllocError);

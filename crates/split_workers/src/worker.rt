@@ -1,6 +1,6 @@
 //! A worker: it asks for a pair, proves it outside the lock and answers, until each pair is counted or memory runs out.
 //! Pairs that it finds apart it answers together, since each split opens all pairs again.
-ghost use Rattle.std.specs.Prelude.{◌≡◌, ◌≢◌, ◌<◌, ◌+◌, [], IfOk, IfSome, length};
+ghost use Rattle.std.specs.Prelude.{◌≡◌, ◌≢◌, ◌<◌, ◌+◌, [], IfOk, IfSome, length, true};
 ghost use Rattle.boxcar.specs.Table.{Shows};
 ghost use Rattle.refine_board.specs.Running.{IsAbout, IsAsked, IsOf};
 ghost use Rattle.verdict_stamp.specs.Published.{IsStampOf};
@@ -52,7 +52,7 @@ impl<'v, 'p, L: Run, E: Ledger, O: Ledger> Room<'v, 'p, L, E, O> {
         desk.into_inner().close(told)
     }
 
-    // Asks for work, and waits for the bell where there is none now, unless the worker holds offers.
+    // Asks for work.
     fn ask<G: Gate>(
         &self,
         rt: &impl Wait,
@@ -69,32 +69,43 @@ impl<'v, 'p, L: Run, E: Ledger, O: Ledger> Room<'v, 'p, L, E, O> {
     {
         let party = seat.party();
         gate.hold(party, call);
-        let mut guard = self.desk.lock(rt);
-        let asked = guard.ask(rt, seat, bench, holding);
-        match asked {
-            Asked::Idle => {
-                if !holding {
-                    guard = self.bell.wait(rt, guard);
-                }
-                drop(guard);
-            }
-            Asked::Ended => {
-                drop(guard);
-                self.bell.notify_all();
-            }
-            _ => drop(guard),
-        }
+        let asked = self.desk.lock(rt).ask(rt, seat, bench, holding);
         gate.told(party, call);
         asked
     }
 
+    // Sleeps while there is nothing to do until another worker answers. Each answer rings the bell, and so does each stop.
+    fn wait(&self, rt: &impl Wait) {
+        let guard = self.desk.lock(rt);
+        drop(self.bell.wait_while(rt, guard, |desk| desk.is_idle()));
+    }
+
+    // Stops the run. Whoever waits is woken, and stops too.
+    fn stop<G: Gate>(&self, rt: &impl Wait, gate: &G, call: u64, party: u32) {
+        gate.hold(party, call);
+        self.desk.lock(rt).stop();
+        self.bell.notify_all();
+        gate.told(party, call);
+    }
+
     // Gives an offer back, and stops the run.
-    fn give_back(&self, rt: &impl Wait, seat: &mut Seat<E, O>, offer: Offer<'p, L>)
+    fn give_back<G: Gate>(
+        &self,
+        rt: &impl Wait,
+        gate: &G,
+        call: u64,
+        seat: &mut Seat<E, O>,
+        offer: Offer<'p, L>,
+    )
         requires party { (offer.party ≡ seat.old.party) × (seat.old.party < L.workers) }
         requires owed { 0 < seat.old.owed }
+        ensures { OwesLess seat.old seat.new }
     {
+        let party = seat.party();
+        gate.hold(party, call);
         self.desk.lock(rt).give_back(seat, offer);
         self.bell.notify_all();
+        gate.told(party, call);
     }
 
     // Answers that an offered pair holds.
@@ -163,6 +174,29 @@ impl<'v, 'p, L: Run, E: Ledger, O: Ledger> Room<'v, 'p, L, E, O> {
         }
     }
 
+    // Leaves a run for want of memory: stops it, and gives back all offers that the worker holds.
+    fn leave<G: Gate>(
+        &self,
+        rt: &impl Wait,
+        gate: &G,
+        party: u32,
+        call: &mut u64,
+        seat: &mut Seat<E, O>,
+        pocket: &mut Vec<Found<'p, L>>,
+    )
+        requires party { party < L.workers }
+        requires seat { (seat.old.party ≡ party) × (seat.old.owed ≡ length pocket.old.items) }
+        requires held { AreHeld party pocket.old.items }
+        ensures seat { (seat.new.party ≡ party) × (seat.new.owed ≡ 0) }
+        ensures pocket { pocket.new.items ≡ [] }
+    {
+        self.stop(rt, gate, next_call(call), party);
+        while let Some(found) = pocket.pop() {
+            let Found { offer, .. } = found;
+            self.give_back(rt, gate, next_call(call), seat, offer);
+        }
+    }
+
     // Proves an offered pair at a bench of its version. Answers that it holds at once; a vector that separates it goes into
     // the pocket.
     fn prove_at<G: Gate>(
@@ -186,11 +220,11 @@ impl<'v, 'p, L: Run, E: Ledger, O: Ledger> Room<'v, 'p, L, E, O> {
         requires product { bench.now.value.pair ≡ L.pair }
         requires k { bench.now.value.k ≡ L.k }
         ensures going { result ≢ Turn.Ended }
-        ensures seat { result ≡ Turn.On → (seat.new.party ≡ party) × (seat.new.ended ≡ 0) × (seat.new.owed ≡ length pocket.new.items) }
-        ensures held { result ≡ Turn.On → AreHeld party pocket.new.items }
+        ensures seat { (seat.new.party ≡ party) × (seat.new.ended ≡ 0) × (seat.new.owed ≡ length pocket.new.items) }
+        ensures held { AreHeld party pocket.new.items }
     {
         if pocket.reserve(1).is_err() {
-            self.give_back(rt, seat, offer);
+            self.give_back(rt, gate, next_call(call), seat, offer);
             return Turn::Stopped;
         }
         match bench.prover().prove_in(alloc, memory, offer.pair()) {
@@ -205,7 +239,7 @@ impl<'v, 'p, L: Run, E: Ledger, O: Ledger> Room<'v, 'p, L, E, O> {
             ),
             Ok(Proof::Splits(vector)) => pocket.push_reserved(Found { offer, vector }),
             Err(_) => {
-                self.give_back(rt, seat, offer);
+                self.give_back(rt, gate, next_call(call), seat, offer);
                 return Turn::Stopped;
             }
         }
@@ -213,10 +247,12 @@ impl<'v, 'p, L: Run, E: Ledger, O: Ledger> Room<'v, 'p, L, E, O> {
     }
 
     // Puts an offer into the pocket with a vector.
-    fn hold(
+    fn hold<G: Gate>(
         &self,
         rt: &impl Wait,
+        gate: &G,
         party: u32,
+        call: &mut u64,
         seat: &mut Seat<E, O>,
         pocket: &mut Vec<Found<'p, L>>,
         offer: Offer<'p, L>,
@@ -227,11 +263,11 @@ impl<'v, 'p, L: Run, E: Ledger, O: Ledger> Room<'v, 'p, L, E, O> {
         requires held { AreHeld party pocket.old.items }
         requires own { IsOf L.pair L.k vector }
         ensures going { result ≢ Turn.Ended }
-        ensures seat { result ≡ Turn.On → (seat.new.party ≡ party) × (seat.new.ended ≡ 0) × (seat.new.owed ≡ length pocket.new.items) }
-        ensures held { result ≡ Turn.On → AreHeld party pocket.new.items }
+        ensures seat { (seat.new.party ≡ party) × (seat.new.ended ≡ 0) × (seat.new.owed ≡ length pocket.new.items) }
+        ensures held { AreHeld party pocket.new.items }
     {
         if pocket.reserve(1).is_err() {
-            self.give_back(rt, seat, offer);
+            self.give_back(rt, gate, next_call(call), seat, offer);
             return Turn::Stopped;
         }
         pocket.push_reserved(Found { offer, vector });
@@ -260,17 +296,17 @@ impl<'v, 'p, L: Run, E: Ledger, O: Ledger> Room<'v, 'p, L, E, O> {
         requires product { bench.now.value.pair ≡ L.pair }
         requires k { bench.now.value.k ≡ L.k }
         ensures going { result ≢ Turn.Ended }
-        ensures seat { result ≡ Turn.On → (seat.new.party ≡ party) × (seat.new.ended ≡ 0) × (seat.new.owed ≡ length pocket.new.items) }
-        ensures held { result ≡ Turn.On → AreHeld party pocket.new.items }
+        ensures seat { (seat.new.party ≡ party) × (seat.new.ended ≡ 0) × (seat.new.owed ≡ length pocket.new.items) }
+        ensures held { AreHeld party pocket.new.items }
     {
         let classes = bench.prover().version().classes();
         match held_apart(alloc, pocket.as_slice(), classes, offer.pair()) {
-            Ok(Some(vector)) => self.hold(rt, party, seat, pocket, offer, vector),
+            Ok(Some(vector)) => self.hold(rt, gate, party, call, seat, pocket, offer, vector),
             Ok(None) => self.prove_at(
                 rt, alloc, gate, party, call, bench, memory, seat, pocket, offer,
             ),
             Err(_) => {
-                self.give_back(rt, seat, offer);
+                self.give_back(rt, gate, next_call(call), seat, offer);
                 Turn::Stopped
             }
         }
@@ -295,8 +331,8 @@ impl<'v, 'p, L: Run, E: Ledger, O: Ledger> Room<'v, 'p, L, E, O> {
         requires held { AreHeld party pocket.old.items }
         requires bench { IfSome bench.old (λ b. Shows L.list b) }
         ensures going { result ≢ Turn.Ended }
-        ensures seat { result ≡ Turn.On → (seat.new.party ≡ party) × (seat.new.ended ≡ 0) × (seat.new.owed ≡ length pocket.new.items) }
-        ensures held { result ≡ Turn.On → AreHeld party pocket.new.items }
+        ensures seat { (seat.new.party ≡ party) × (seat.new.ended ≡ 0) × (seat.new.owed ≡ length pocket.new.items) }
+        ensures held { AreHeld party pocket.new.items }
         ensures bench { IfSome bench.new (λ b. Shows L.list b) }
     {
         gate.works(party, last_call(*call));
@@ -309,14 +345,14 @@ impl<'v, 'p, L: Run, E: Ledger, O: Ledger> Room<'v, 'p, L, E, O> {
                 turn
             }
             Err(_) => {
-                self.give_back(rt, seat, offer);
+                self.give_back(rt, gate, next_call(call), seat, offer);
                 Turn::Stopped
             }
         }
     }
 
     // Asks once, and does what is asked. Offers that it holds it hands in when it finds no open pair, or the board has
-    // another version.
+    // another version; where it holds none and finds none it waits.
     fn turn<G: Gate>(
         &self,
         rt: &impl Wait,
@@ -334,8 +370,8 @@ impl<'v, 'p, L: Run, E: Ledger, O: Ledger> Room<'v, 'p, L, E, O> {
         requires held { AreHeld party pocket.old.items }
         requires bench { IfSome bench.old (λ b. Shows L.list b) }
         ensures bench { IfSome bench.new (λ b. Shows L.list b) }
-        ensures seat { result ≡ Turn.On → (seat.new.party ≡ party) × (seat.new.ended ≡ 0) × (seat.new.owed ≡ length pocket.new.items) }
-        ensures held { result ≡ Turn.On → AreHeld party pocket.new.items }
+        ensures seat { result ≢ Turn.Ended → (seat.new.party ≡ party) × (seat.new.ended ≡ 0) × (seat.new.owed ≡ length pocket.new.items) }
+        ensures held { result ≢ Turn.Ended → AreHeld party pocket.new.items }
         ensures ended { result ≡ Turn.Ended → HasEnded party seat.new }
     {
         let number = next_call(call);
@@ -347,7 +383,11 @@ impl<'v, 'p, L: Run, E: Ledger, O: Ledger> Room<'v, 'p, L, E, O> {
                 )
             }
             Asked::Idle | Asked::Moved => {
-                self.hand_in(rt, gate, party, call, seat, pocket);
+                if holding {
+                    self.hand_in(rt, gate, party, call, seat, pocket);
+                } else {
+                    self.wait(rt);
+                }
                 Turn::On
             }
             Asked::Ended => {
@@ -387,22 +427,22 @@ fn is_full<T>(pocket: &Vec<T>, places: u32) -> bool {
     pocket.len() as u64 > (1 << 31) / (places as u64 + 1)
 }
 
-/// Works until the end, and gives the seat back where the worker was told that each pair is counted; nothing where memory
-/// ran out.
+/// Works until the end, and says whether the worker was told that each pair is counted; else memory ran out. Either way it owes
+/// no answer then.
 pub(crate) fn work<'v, 'p, L: Run, E: Ledger, O: Ledger, G: Gate>(
     rt: &impl Wait,
     alloc: Global,
     room: &Room<'v, 'p, L, E, O>,
     gate: &G,
-    seat: Seat<E, O>,
+    seat: &mut Seat<E, O>,
     places: u32,
-) -> Option<Seat<E, O>>
-    requires party { seat.party < L.workers }
-    requires fresh { (seat.ended ≡ 0) × (seat.owed ≡ 0) }
-    ensures { IfSome result (HasEnded seat.party) }
+) -> bool
+    requires party { seat.old.party < L.workers }
+    requires fresh { (seat.old.ended ≡ 0) × (seat.old.owed ≡ 0) }
+    ensures settled { seat.new.owed ≡ 0 }
+    ensures ended { result ≡ true → HasEnded seat.old.party seat.new }
 {
     let party = seat.party();
-    let mut seat = seat;
     let mut bench = None;
     let mut memory = Workspaces::new();
     let mut pocket = Vec::new(alloc);
@@ -416,15 +456,18 @@ pub(crate) fn work<'v, 'p, L: Run, E: Ledger, O: Ledger, G: Gate>(
             &mut call,
             &mut bench,
             &mut memory,
-            &mut seat,
+            seat,
             &mut pocket,
         ) {
             Turn::On => {}
-            Turn::Ended => return Some(seat),
-            Turn::Stopped => return None,
+            Turn::Ended => return true,
+            Turn::Stopped => {
+                room.leave(rt, gate, party, &mut call, seat, &mut pocket);
+                return false;
+            }
         }
         if is_full(&pocket, places) {
-            room.hand_in(rt, gate, party, &mut call, &mut seat, &mut pocket);
+            room.hand_in(rt, gate, party, &mut call, seat, &mut pocket);
         }
     }
     unreachable!()

@@ -1,6 +1,6 @@
 use Rattle.std.proofs.Common.{ℕ, ◌+◌, List, sym, subst}
 use Rattle.refine_board.proofs.Supported.{always_supported, opening_supported, done_is_greatest}
-use Rattle.refine_board.proofs.Splits.{no_later_split, splits_below, same_end, split_apart}
+use Rattle.refine_board.proofs.Splits.{no_later_split, splits_below, same_end, alike_end, split_apart}
 use Rattle.refine_board.proofs.Offers.{offers_below}
 use Rattle.refine_board.proofs.Orderly.{late_below, offers_in_order_below, opening_timely}
 use Rattle.class_partition.proofs.SameClasses.{count_of_greatest}
@@ -33,7 +33,10 @@ pub returns-clause-few : goal.returns-clause-few
 returns-clause-few c = λ pair k opening entries board is. splits_below pair k entries opening board (starts pair k opening entries board is).partition is.leads
 
 pub returns-clause-same : goal.returns-clause-same
-returns-clause-same c = λ pair k a b xs ys a_end b_end phase is_a is_b. same_end pair k xs ys a a_end b b_end (starts pair k a xs a_end is_a) (starts pair k b ys b_end is_b) phase is_a.leads is_b.leads
+returns-clause-same c = λ pair k a b xs ys a_end b_end is_a is_b all_a all_b. (
+  alike_end pair k xs ys a a_end b b_end (starts pair k a xs a_end is_a) (starts pair k b ys b_end is_b) is_a.leads is_b.leads all_a all_b,
+  λ phase. same_end pair k xs ys a a_end b b_end (starts pair k a xs a_end is_a) (starts pair k b ys b_end is_b) phase is_a.leads is_b.leads all_a all_b,
+)
 
 pub returns-clause-offers : goal.returns-clause-offers
 returns-clause-offers c = λ pair k opening entries board is. offers_below pair k entries opening board (starts pair k opening entries board is) is.leads

@@ -1,4 +1,4 @@
-use Rattle.std.proofs.Common.{◌≡◌, ◌∙◌, ◌<◌, ◌+◌, ◌^◌, ℕ, true, refl, sym, ap, subst, arith}
+use Rattle.std.proofs.Common.{◌≡◌, ◌∙◌, ◌<◌, ◌+◌, ◌^◌, ℕ, refl, sym, ap, subst, arith}
 use Rattle.circ_model.specs.Meaning.{places_of}
 use Rattle.refine_board.specs.declared.journal.Step.TheVariants.{Offered, Idle}
 use Rattle.refine_board.specs.Answers.{taken}
@@ -34,5 +34,5 @@ invariant_of-self-2 g c =
           rw w.self-inside-is (desk_ended pair k workers i.board c.take.new.self i.stopped party i.ledgers w.end.new.ledgers E O c.self.invariant
           (subst (λ t. Appends places i.board c.take.new.self party (taken t)) w.in-Ok-Done.field-0-is w.in-Ok-Done.ensures.ok.0) under w.end.ensures.greatest (w.end.ensures.weights ∙ ap (λ q. i.ledgers.weights + 2 ^ q) (sym own)) w.end.ensures.ends w.end.ensures.owed)
       | in-Err w ↦
-          rw w.self-inside-is (desk_same pair k workers i.board c.take.new.self i.stopped true i.ledgers E O c.self.invariant w.in-Err.ensures.err.0 w.in-Err.ensures.err.1 (λ was. refl))
+          rw w.self-inside-is (desk_same pair k workers i.board c.take.new.self i.stopped i.stopped i.ledgers E O c.self.invariant w.in-Err.ensures.err.0 w.in-Err.ensures.err.1 (λ was. was))
     ]
