@@ -1,0 +1,92 @@
+//! Whether needed pairs pass, asked of the solver where hashing doesn't tell. What is found equal is merged into the graph, for
+//! ever and for each map over it: so a later pair costs less. (SAT sweeping: A. Kuehlmann, F. Krohm, DAC 1997.)
+ghost use Rattle.std.specs.Prelude.{◌≡◌, ◌<◌, ◌+◌, ◌*◌, ◌/◌, ℕ, IfNone, IfOk, length};
+ghost use Rattle.circ_model.specs.Meaning.{places_of};
+ghost use Rattle.and_graph.specs.Graphs.{AreEqual};
+ghost use Rattle.frame_graph.specs.Inductions.{BasePasses, StepPasses};
+ghost use Rattle.frame_graph.specs.Laws.{IsMerged};
+ghost use Rattle.frame_graph.specs.Maps.{IsResetMap, IsStepMap, induction_of};
+
+use crate::map::FrameMap;
+use and_graph::{Asker, Graph, Pattern};
+use circ_model::Lit;
+use class_partition::Classes;
+use std::alloc::{AllocError, Global};
+
+// Whether two literals can differ: none if not, and then they are one from now on; or else values of leaves under which they do.
+#[tactic(auto, using(crate::proofs::Merges::nothing_merged))]
+fn settle(
+    alloc: Global,
+    graph: &mut Graph,
+    asker: &mut Asker,
+    a: Lit,
+    b: Lit,
+) -> Result<Option<Pattern>, AllocError>
+    requires left { a / 2 < length graph.old }
+    requires right { b / 2 < length graph.old }
+    ensures merged { IsMerged graph.old graph.new }
+    ensures equal { IfOk result (λ found. IfNone found (AreEqual graph.old a b)) }
+{
+    if graph.same(a, b) {
+        return Ok(None);
+    }
+    match graph.difference(alloc, asker, a, b)? {
+        Some(found) => Ok(Some(found)),
+        None => {
+            graph.merge_equal(a, b);
+            Ok(None)
+        }
+    }
+}
+
+impl<'p> FrameMap<'p> {
+    /// Whether a needed pair holds in each frame from reset: none if so, on each run; or else values of leaves under which it
+    /// differs in some frame, a hint that is to be simulated. What is found equal is merged.
+    pub fn settle_base(
+        &self,
+        alloc: Global,
+        graph: &mut Graph,
+        asker: &mut Asker,
+        classes: &Classes,
+        member: u32,
+    ) -> Result<Option<Pattern>, AllocError>
+        requires place { member < places_of self.now.leaves.pair }
+        requires classes { length classes.now.least ≡ places_of self.now.leaves.pair }
+        requires map { IsResetMap graph.old self.now }
+        ensures merged { IsMerged graph.old graph.new }
+        ensures passes { IfOk result (λ found. IfNone found (BasePasses (induction_of self.now classes.now) member)) }
+    {
+        for frame in 0..self.depth() {
+            let _nodes = graph.len();
+            let (least, other) = self.base_pair(classes, frame, member);
+            match settle(alloc, graph, asker, least, other)? {
+                Some(found) => return Ok(Some(found)),
+                None => {}
+            }
+        }
+        Ok(None)
+    }
+
+    /// Whether a needed pair holds in the last frame of the step: none if so, on each of its paths; or else values of leaves
+    /// under which it differs there, a hint: they may be those of a path on which the classes don't hold. What is found equal is
+    /// merged.
+    pub fn settle_step(
+        &self,
+        alloc: Global,
+        graph: &mut Graph,
+        asker: &mut Asker,
+        classes: &Classes,
+        member: u32,
+    ) -> Result<Option<Pattern>, AllocError>
+        requires place { member < places_of self.now.leaves.pair }
+        requires classes { length classes.now.least ≡ places_of self.now.leaves.pair }
+        requires reached { self.now.depth * places_of self.now.leaves.pair + member < length self.now.literals }
+        requires map { IsStepMap graph.old self.now classes.now }
+        ensures merged { IsMerged graph.old graph.new }
+        ensures passes { IfOk result (λ found. IfNone found (StepPasses (induction_of self.now classes.now) member)) }
+    {
+        let _nodes = graph.len();
+        let (least, other) = self.step_pair(classes, member);
+        settle(alloc, graph, asker, least, other)
+    }
+}
