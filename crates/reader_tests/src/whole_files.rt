@@ -1,3 +1,5 @@
+ghost use Rattle.std.specs.Prelude.{◌<◌, ◌^◌};
+
 use aiger_codec::{NetError, write_binary_net, write_text_net};
 use aiger_file::read_netlist;
 use std::alloc::{AllocError, Global};
@@ -84,6 +86,11 @@ fn binary_files_are_read_as_text_files_are(rt: HostRuntime) -> Result<(), Fail> 
         ),
         (b"aig 4 2 1 0 1\n8\n\x04\x02x".as_slice(), ("truncated", 18)),
         (b"aig 4 2 1 0 0\n8\n".as_slice(), ("count", 0)),
+        (b"aig 300 300 0 1 0\n600\n".as_slice(), ("gates", 0)),
+        (
+            b"aig 301 300 0 1 1\n602\n\x02\xd6\x04".as_slice(),
+            ("gates", 1),
+        ),
         (b"aig 0 0 0 0 0 0 1\n".as_slice(), ("section constraint", 0)),
     ];
     for (bytes, wanted) in rows {
@@ -109,6 +116,29 @@ fn a_binary_file_that_is_cut_is_truncated_where_its_item_begins(
         assert_eq!(rt; outcome(alloc, &whole[..length]), wanted);
     }
     assert_eq!(rt; outcome(alloc, whole), ("gates", 1));
+    Ok(())
+}
+
+// A text with a chain of gates, the first of which is the product of the second and true, and so on down to the one input.
+fn chain(alloc: Global, last: u32) -> Result<Vec<u8>, AllocError>
+    requires some { 0 < last }
+    requires few { last < 2 ^ 20 }
+{
+    let mut text = Vec::new(alloc);
+    let head = format!(in alloc; "aag {last} 1 0 0 {}\n{}\n", last - 1, 2 * last)?;
+    text.extend_from_slice(head.as_bytes())?;
+    for v in 1..last {
+        let line = format!(in alloc; "{} {} 1\n", 2 * v, 2 * (v + 1))?;
+        text.extend_from_slice(line.as_bytes())?;
+    }
+    Ok(text)
+}
+
+#[test]
+fn a_chain_of_gates_may_be_long_and_stand_upside_down(rt: HostRuntime) -> Result<(), Fail> {
+    let alloc = rt.alloc();
+    let text = chain(alloc, 100_000)?;
+    assert_eq!(rt; outcome(alloc, &text), ("gates", 99_999));
     Ok(())
 }
 

@@ -1,5 +1,5 @@
 -- The numbers of the entries of a journal's front, one entry more at a time.
-use Rattle.std.proofs.Common.{◌≡◌, ◌∙◌, ◌<◌, ◌≤◌, ◌+◌, ℕ, List, [], Bool, true, false, ◌⊎◌, inl, inr, length, take, get_or, refl, ap, sym, subst, arith, count_by}
+use Rattle.std.proofs.Common.{◌≡◌, ◌∙◌, ◌<◌, ◌+◌, ℕ, List, Bool, true, false, ◌⊎◌, inl, inr, length, take, get_or, refl, ap, sym, subst, arith, count_by}
 use Rattle.std.proofs.lemmas.List.{length-take}
 use Rattle.std.proofs.lemmas.List.Sums.{count_by_more_yes, count_by_more_no, count_by-le-length}
 use Rattle.refine_board.specs.declared.journal.Step.{Step}

@@ -1,6 +1,5 @@
-use Rattle.std.proofs.Common.{◌<◌, ◌-◌, ◌^◌, ◌∙◌, ℕ, List, length, ap, arith}
+use Rattle.std.proofs.Common.{◌-◌, ◌^◌, ◌∙◌, ap, arith}
 use Rattle.std.proofs.lemmas.List.{take_all}
-use Rattle.refine_board.specs.declared.journal.Entry.{Entry}
 use Rattle.sec_cli.specs.Stats.{stats_of}
 use Rattle.sec_cli.proofs.Tallied.{are_few, one_more}
 use Rattle.sec_cli.proofs.counting.stats_of.Goals as goal
