@@ -48,11 +48,11 @@ fn a_shelf_fails_where_it_is_told(rt: HostRuntime) -> Result<(), Fail> {
     let alloc = rt.alloc();
     let mut shelf = MemShelf::new(alloc, vec![in alloc; 0, 4]?);
     let mut file = Vec::new(alloc);
-    assert!(rt; shelf.put("a", b"123").is_ok());
+    assert!(rt; shelf.put("a", b"1234").is_ok());
     assert_eq!(rt; shelf.load("a", 9, &mut file), Err(LoadFault::Failed));
-    assert_eq!(rt; shelf.load("a", 3, &mut file), Ok(()));
-    assert_eq!(rt; shelf.load("a", 1, &mut file), Err(LoadFault::TooLong));
-    assert_eq!(rt; file.as_slice(), b"12".as_slice());
+    assert_eq!(rt; shelf.load("a", 4, &mut file), Ok(()));
+    assert_eq!(rt; shelf.load("a", 3, &mut file), Err(LoadFault::TooLong));
+    assert_eq!(rt; file.as_slice(), b"1234".as_slice());
     assert_eq!(rt; shelf.load("b", 9, &mut file), Err(LoadFault::Failed));
     assert_eq!(rt; shelf.store("b", b"4"), Err(StoreFault::Failed));
     assert_eq!(rt; shelf.store("b", b"5"), Ok(()));

@@ -7,6 +7,8 @@ mod demos;
 #[cfg(test)]
 mod devices;
 #[cfg(test)]
+mod hostile;
+#[cfg(test)]
 mod plain;
 #[cfg(test)]
 mod runs;

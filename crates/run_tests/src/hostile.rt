@@ -1,0 +1,337 @@
+//! Runs over bytes that no editor writes and over devices that fail, deep questions, and files of many inputs.
+ghost use Rattle.std.specs.Prelude.{◌≤◌};
+
+use aiger_codec::{write_binary_net, write_text_net};
+use demo_pair::make_demo;
+use sec_base::{FreeGate, MemShelf, MemSink};
+use sec_cli::run;
+use std::alloc::{AllocError, Global};
+use std::sync::Wait;
+use std::test::Fail;
+use std::thread::Threads;
+
+// The words and files of a run, the call of the shelf that fails, how many bytes the output takes, and how it ends.
+#[derive(Clone, Copy)]
+struct Row {
+    words: &'static str,
+    left: &'static [u8],
+    right: &'static [u8],
+    third: &'static [u8],
+    failing: u64,
+    room: usize,
+    status: u8,
+    out: &'static str,
+    err: &'static str,
+}
+
+// How a run ended, what its streams took, and its shelf.
+#[derive(Drop)]
+struct Ended {
+    status: u8,
+    out: MemSink,
+    err: MemSink,
+    shelf: MemShelf,
+}
+
+const TOGGLE: &str = "aag 1 0 1 1 0\n2 3\n2\n";
+
+const LOW: &str = "aag 0 0 0 1 0\n0\n";
+
+const RING: &str = "aag 4 0 3 1 1\n2 6 1\n4 2\n6 4\n8\n8 2 4\n";
+
+const PRODUCT_OF_LATCHES: &str = "aag 5 2 2 1 1\n2\n4\n6 2\n8 4\n10\n10 6 8\n";
+
+const LATCH_OF_PRODUCT: &str = "aag 4 2 1 1 1\n2\n4\n6 8\n6\n8 2 4\n";
+
+const TRACE: &str = "1\nb0\n0\n\n\n.\n";
+
+const DIFFERENT: &str = "different k=2 frame=1 output=0\n1\nb0\n0\n\n\n.\n";
+
+fn words_of(alloc: Global, text: &str) -> Result<Vec<String>, AllocError> {
+    let mut words = Vec::new(alloc);
+    for word in text.split(' ') {
+        words.push(format!(in alloc; "{word}")?)?;
+    }
+    Ok(words)
+}
+
+// Runs these words over a shelf, with so much room on the output.
+fn end_of<R: Threads + Wait + Sync>(
+    rt: &R,
+    alloc: Global,
+    words: &str,
+    mut shelf: MemShelf,
+    room: usize,
+) -> Result<Ended, AllocError> {
+    let words = words_of(alloc, words)?;
+    let (Ok(mut out), Ok(mut err)) = (
+        MemSink::with_room(alloc, room, Vec::new(alloc)),
+        MemSink::with_room(alloc, 400, Vec::new(alloc)),
+    ) else {
+        return Err(AllocError);
+    };
+    let report = run(rt, alloc, &words, &mut shelf, &mut out, &mut err, &FreeGate);
+    Ok(Ended {
+        status: report.status,
+        out,
+        err,
+        shelf,
+    })
+}
+
+// A shelf with the files of a row, of which one call fails.
+fn shelf_of(alloc: Global, row: &Row) -> Result<MemShelf, AllocError> {
+    let mut shelf = MemShelf::new(alloc, vec![in alloc; row.failing]?);
+    for (name, bytes) in [
+        ("left", row.left),
+        ("right", row.right),
+        ("third", row.third),
+    ] {
+        if shelf.put(name, bytes).is_err() {
+            return Err(AllocError);
+        }
+    }
+    Ok(shelf)
+}
+
+// The first row that ends otherwise than it says.
+fn first_wrong<R: Threads + Wait + Sync>(
+    rt: &R,
+    alloc: Global,
+    rows: &[Row],
+) -> Result<Option<&'static str>, AllocError> {
+    for row in rows {
+        let ended = end_of(rt, alloc, row.words, shelf_of(alloc, row)?, row.room)?;
+        if ended.status != row.status
+            || ended.out.bytes() != row.out.as_bytes()
+            || ended.err.bytes() != row.err.as_bytes()
+        {
+            return Ok(Some(row.words));
+        }
+    }
+    Ok(None)
+}
+
+fn answered(
+    words: &'static str,
+    left: &'static str,
+    right: &'static [u8],
+    status: u8,
+    out: &'static str,
+) -> Row {
+    Row {
+        words,
+        left: left.as_bytes(),
+        right,
+        third: TRACE.as_bytes(),
+        failing: u64::MAX,
+        room: 400,
+        status,
+        out,
+        err: "",
+    }
+}
+
+// The row of a run that ends by a fault of a device.
+fn failed(words: &'static str, failing: u64, room: usize, status: u8, err: &'static str) -> Row {
+    Row {
+        failing,
+        room,
+        err,
+        ..answered(words, TOGGLE, LOW.as_bytes(), status, "")
+    }
+}
+
+#[test]
+fn any_bytes_and_any_depth_are_answered(rt: HostRuntime) -> Result<(), Fail> {
+    let alloc = rt.alloc();
+    let check = "sec check left right";
+    let deep = "sec check left right -k 16";
+    let eight = "aag 8 8 0 0 0\n2\n4\n6\n8\n10\n12\n14\n16\n";
+    let overlong = b"aig 4 2 1 1 1\n8\n6\n\x84\x00\x02".as_slice();
+    let squared = b"aig 4 2 1 1 1\n8\n6\n\x08\x00".as_slice();
+    let complement = b"aag 1 0 1 1 0\n2 3 1\n3\n".as_slice();
+    let rows = [
+        answered(
+            check,
+            eight,
+            eight.as_bytes(),
+            0,
+            "equivalent k=1 signals=9 classes=9\n",
+        ),
+        answered(
+            check,
+            PRODUCT_OF_LATCHES,
+            overlong,
+            0,
+            "equivalent k=1 signals=8 classes=7\n",
+        ),
+        answered(
+            check,
+            PRODUCT_OF_LATCHES,
+            squared,
+            2,
+            "undecided k=1 signals=8 classes=6 unpaired=0\n",
+        ),
+        answered(
+            check,
+            TOGGLE,
+            b"aag 1 0 1 1 0\n2 3\n3\n".as_slice(),
+            1,
+            "different k=1 frame=0 output=0\n1\nb0\n00\n\n.\n",
+        ),
+        answered(
+            check,
+            "aig 300 300 0 1 0\n600\n",
+            b"aig 300 300 0 1 0\n600\n".as_slice(),
+            0,
+            "equivalent k=1 signals=301 classes=301\n",
+        ),
+        answered(
+            "sec check left right -k 16 -j 4 --classes",
+            TOGGLE,
+            complement,
+            0,
+            "equivalent k=16 signals=3 classes=2\nclass l1 !r1\n",
+        ),
+        answered(
+            deep,
+            LOW,
+            RING.as_bytes(),
+            0,
+            "equivalent k=16 signals=5 classes=4\n",
+        ),
+        answered(
+            deep,
+            PRODUCT_OF_LATCHES,
+            LATCH_OF_PRODUCT.as_bytes(),
+            0,
+            "equivalent k=16 signals=8 classes=7\n",
+        ),
+        answered(
+            deep,
+            TOGGLE,
+            LOW.as_bytes(),
+            1,
+            "different k=16 frame=1 output=0\n1\nb0\n0\n\n\n.\n",
+        ),
+    ];
+    assert_eq!(rt; first_wrong(&rt, alloc, rows.as_slice())?, None);
+    Ok(())
+}
+
+#[test]
+fn devices_that_fail_are_told(rt: HostRuntime) -> Result<(), Fail> {
+    let alloc = rt.alloc();
+    let unwritten = "sec: output: write failed\n";
+    let rows = [
+        Row {
+            right: TOGGLE.as_bytes(),
+            ..failed("sec check left right", u64::MAX, 0, 6, unwritten)
+        },
+        failed(
+            "sec check left right -k 2 --trace made",
+            2,
+            400,
+            6,
+            "sec: made: write failed\n",
+        ),
+        failed(
+            "sec replay left right third",
+            2,
+            400,
+            5,
+            "sec: third: read failed\n",
+        ),
+        failed(
+            "sec verify left right third",
+            2,
+            400,
+            5,
+            "sec: third: read failed\n",
+        ),
+        failed("sec demo 0", u64::MAX, 0, 6, unwritten),
+    ];
+    assert_eq!(rt; first_wrong(&rt, alloc, rows.as_slice())?, None);
+    Ok(())
+}
+
+// Whether an output that takes so many bytes has the front of the text, and the trace stands.
+fn is_cut_at<R: Threads + Wait + Sync>(
+    rt: &R,
+    alloc: Global,
+    room: usize,
+) -> Result<bool, AllocError> {
+    let words = "sec check left right -k 2 --trace made";
+    let shelf = shelf_of(alloc, &failed(words, u64::MAX, room, 6, ""))?;
+    let ended = end_of(rt, alloc, words, shelf, room)?;
+    Ok(
+        ended.status == 6
+            && Some(ended.out.bytes()) == DIFFERENT.as_bytes().get(..room)
+            && ended.err.bytes() == b"sec: output: write failed\n".as_slice()
+            && ended.shelf.get("made") == Some(TRACE.as_bytes()),
+    )
+}
+
+#[test]
+fn an_output_takes_the_front_of_the_text(rt: HostRuntime) -> Result<(), Fail> {
+    let alloc = rt.alloc();
+    for room in 0..DIFFERENT.len() {
+        assert!(rt; is_cut_at(&rt, alloc, room)?);
+    }
+    Ok(())
+}
+
+// Whether a certificate is stored by these words and verified.
+fn is_verified<R: Threads + Wait + Sync>(
+    rt: &R,
+    alloc: Global,
+    words: &'static str,
+    left: &'static str,
+    right: &'static str,
+) -> Result<bool, AllocError> {
+    let shelf = shelf_of(alloc, &answered(words, left, right.as_bytes(), 0, ""))?;
+    let stored = end_of(rt, alloc, words, shelf, 400)?;
+    let read = end_of(rt, alloc, "sec verify left right made", stored.shelf, 400)?;
+    Ok(stored.status == 0 && read.out.bytes() == b"verified\n".as_slice())
+}
+
+#[test]
+fn certificates_of_sixteen_frames_are_verified(rt: HostRuntime) -> Result<(), Fail> {
+    let alloc = rt.alloc();
+    let words = "sec check left right -k 16 --cert made";
+    for (left, right) in [
+        (TOGGLE, TOGGLE),
+        (LOW, RING),
+        (PRODUCT_OF_LATCHES, LATCH_OF_PRODUCT),
+    ] {
+        assert!(rt; is_verified(&rt, alloc, words, left, right)?);
+    }
+    Ok(())
+}
+
+// A shelf with a demo pair's netlists, the left one in the binary form, the right one as text.
+fn demo_shelf(alloc: Global, n: u32) -> Result<MemShelf, AllocError>
+    requires { n ≤ 100000 }
+{
+    let (left, right) = make_demo(alloc, n)?;
+    let mut shelf = MemShelf::new(alloc, Vec::new(alloc));
+    let left = write_binary_net(alloc, &left)?;
+    let right = write_text_net(alloc, &right)?;
+    if shelf.put("left", &left).is_err() || shelf.put("right", &right).is_err() {
+        return Err(AllocError);
+    }
+    Ok(shelf)
+}
+
+#[test]
+fn files_of_a_hundred_inputs_are_answered_as_their_pair_is(rt: HostRuntime) -> Result<(), Fail> {
+    let alloc = rt.alloc();
+    let none = MemShelf::new(alloc, Vec::new(alloc));
+    let made = end_of(&rt, alloc, "sec demo 100", none, 400)?;
+    let files = demo_shelf(alloc, 100)?;
+    let read = end_of(&rt, alloc, "sec check left right", files, 400)?;
+    assert_eq!(rt; read.status, 0);
+    assert!(rt; made.out.bytes().ends_with(read.out.bytes()));
+    Ok(())
+}
