@@ -271,8 +271,10 @@ fn toggles_are_counted(
     product: &Product,
 ) -> Result<bool, AllocError> {
     let (version, journal) = worked(rt, alloc, product)?;
+    let replayed = replay(alloc, &Version::first(alloc, product, 1)?, 2, &journal)?;
     Ok(
         version.classes().count() == 2
+            && same_classes(&replayed, version.classes())
             && journal.len() == 8
             && is_entry(&journal, 0, 0, 0, "offered", [0, 1])
             && is_entry(&journal, 1, 1, 0, "offered", [0, 2])

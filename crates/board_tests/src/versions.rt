@@ -2,7 +2,8 @@
 ghost use Rattle.std.specs.Prelude.{◌≡◌};
 
 use crate::circuits::{
-    LATCH_OF_PRODUCT, LOW, PRODUCT_OF_LATCHES, RING, TOGGLE, TOGGLE_FROM_ONE, pair_of,
+    DELAY, LATCH_OF_PRODUCT, LATE_DELAY, LOW, PRODUCT_OF_LATCHES, RING, TOGGLE, TOGGLE_FROM_ONE,
+    pair_of,
 };
 use bit_rows::BitRow;
 use class_partition::Classes;
@@ -97,11 +98,12 @@ fn number_of(row: &BitRow) -> u32 {
     bits
 }
 
-// Proves the first needed pair of a version, and splits a copy where that fails. Answers the member where it holds, or
-// else 9; the vector's bits; and the number and the count of the copy.
-fn prove_first(
+// Proves the first needed pair of a version at or past a place, and splits a copy where that fails. Answers the member where
+// it holds, or else 9, and the vector's bits.
+fn prove_from(
     alloc: Global,
     version: &Version<'_>,
+    place: u32,
     next: &mut Version<'_>,
 ) -> Result<[u32; 2], AllocError>
     requires product { next.old.pair ≡ version.now.pair }
@@ -110,7 +112,7 @@ fn prove_first(
     ensures k { next.new.k ≡ next.old.k }
 {
     let prover = Prover::new(alloc, version)?;
-    match prover.version().classes().next_pair(0) {
+    match prover.version().classes().next_pair(place) {
         None => Ok([9, 0]),
         Some(pair) => match prover.prove(alloc, pair)? {
             Proof::Holds(verdict) => Ok([verdict.member(), 0]),
@@ -126,9 +128,9 @@ fn prove_first(
 fn toggles(alloc: Global, product: &Product) -> Result<[[u32; 2]; 2], AllocError> {
     let mut version = Version::first(alloc, product, 1)?;
     let now = version.copy(alloc)?;
-    let first = prove_first(alloc, &now, &mut version)?;
+    let first = prove_from(alloc, &now, 0, &mut version)?;
     let now = version.copy(alloc)?;
-    let second = prove_first(alloc, &now, &mut version)?;
+    let second = prove_from(alloc, &now, 0, &mut version)?;
     Ok([first, second])
 }
 
@@ -137,6 +139,28 @@ fn a_vector_takes_the_constant_away_and_then_the_latches_hold(rt: HostRuntime) -
     let alloc = rt.alloc();
     match pair_of(alloc, TOGGLE, TOGGLE) {
         Ok(product) => assert!(rt; toggles(alloc, &product)? == [[9, 0b110], [2, 0]]),
+        Err(_) => assert!(rt; false),
+    }
+    Ok(())
+}
+
+// A delay and a late one: the input is told from the constant, and the left latch isn't; after that split it is.
+fn delays(alloc: Global, product: &Product) -> Result<[u32; 4], AllocError> {
+    let first = Version::first(alloc, product, 1)?;
+    let mut version = first.copy(alloc)?;
+    let input = prove_from(alloc, &first, 1, &mut version)?;
+    let mut unsplit = first.copy(alloc)?;
+    let latch = prove_from(alloc, &first, 2, &mut unsplit)?;
+    let mut later = version.copy(alloc)?;
+    let again = prove_from(alloc, &version, 2, &mut later)?;
+    Ok([input[0], latch[0], again[0], later.number()])
+}
+
+#[test]
+fn a_pair_that_held_is_taken_apart_after_a_split(rt: HostRuntime) -> Result<(), Fail> {
+    let alloc = rt.alloc();
+    match pair_of(alloc, DELAY, LATE_DELAY) {
+        Ok(product) => assert_eq!(rt; delays(alloc, &product)?, [9, 2, 9, 2]),
         Err(_) => assert!(rt; false),
     }
     Ok(())
