@@ -111,7 +111,7 @@ fn prove_from(
     ensures product { next.new.pair ≡ next.old.pair }
     ensures k { next.new.k ≡ next.old.k }
 {
-    let prover = Prover::new(alloc, version)?;
+    let mut prover = Prover::new(alloc, version)?;
     match prover.version().classes().next_pair(place) {
         None => Ok([9, 0]),
         Some(pair) => match prover.prove(alloc, pair)? {

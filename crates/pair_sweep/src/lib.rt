@@ -4,6 +4,8 @@
 //! Mishchenko, M. Case, R. Brayton, S. Jang, IWLS 2008.)
 #![tactic(auto)]
 
+mod free_bit;
 mod sweep;
 
+pub use free_bit::FreeBit;
 pub use sweep::{Sweep, SweepMemory};

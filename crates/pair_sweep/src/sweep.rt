@@ -1,9 +1,10 @@
 //! A sweep of one version's needed pairs, and what it leaves to that of the next version.
-ghost use Rattle.std.specs.Prelude.{◌≡◌, ◌<◌, ◌≤◌, ◌+◌, ◌*◌, ℕ, IsTrue, IfOk, length};
+ghost use Rattle.std.specs.Prelude.{◌≡◌, ◌<◌, ◌≤◌, ◌+◌, ◌*◌, ℕ, IfNone, IfOk, length};
 ghost use Rattle.circ_model.specs.Meaning.{places_of};
 ghost use Rattle.frame_graph.specs.Inductions.{BasePasses, StepPasses};
 ghost use Rattle.pair_sweep.specs.Sweeps.{IsSweep};
 
+use crate::free_bit::{FreeBit, decoded};
 use and_graph::{Asker, Graph};
 use class_partition::Classes;
 use frame_graph::FrameMap;
@@ -120,12 +121,17 @@ impl<'v, 'p> Sweep<'v, 'p> {
         }
     }
 
-    /// Whether a place is found equal to its class's least place, at their relative phase, in the first k frames of every run. It
-    /// asks the solver of what the graph doesn't show; `false` says nothing. An `Err` is want of memory.
-    pub fn base_passes(&mut self, alloc: Global, member: u32) -> Result<bool, AllocError>
+    /// Where a place seems to differ from its class's least place, at their relative phase, in the first k frames of some run: none,
+    /// if they are found equal there on every run. It asks the solver of what the graph doesn't show. Free bits with values are a
+    /// hint, which is to be simulated. An `Err` is want of memory.
+    pub fn base_difference(
+        &mut self,
+        alloc: Global,
+        member: u32,
+    ) -> Result<Option<Vec<FreeBit>>, AllocError>
         requires place { member < places_of self.old.pair }
         ensures kept { self.new ≡ self.old }
-        ensures passes { IfOk result (λ passes. IsTrue passes → BasePasses self.old member) }
+        ensures passes { IfOk result (λ found. IfNone found (BasePasses self.old member)) }
     {
         let found = self.resets.settle_base(
             alloc,
@@ -134,16 +140,20 @@ impl<'v, 'p> Sweep<'v, 'p> {
             self.classes,
             member,
         )?;
-        Ok(found.is_none())
+        decoded(alloc, &self.resets, found)
     }
 
-    /// Whether it is found equal after k frames in which the classes hold. It asks the solver of what the graph doesn't show;
-    /// `false` says nothing, since a member that stands for its class's least place is not asked to be equal to it. An `Err` is
-    /// want of memory.
-    pub fn step_passes(&mut self, alloc: Global, member: u32) -> Result<bool, AllocError>
+    /// Where it seems to differ after k frames in which the classes hold: none, if it is found equal there. It asks the solver of
+    /// what the graph doesn't show. Free bits with values are a hint: they may be those of a path on which the classes don't hold,
+    /// since a member that stands for its class's least place is not asked to be equal to it. An `Err` is want of memory.
+    pub fn step_difference(
+        &mut self,
+        alloc: Global,
+        member: u32,
+    ) -> Result<Option<Vec<FreeBit>>, AllocError>
         requires place { member < places_of self.old.pair }
         ensures kept { self.new ≡ self.old }
-        ensures passes { IfOk result (λ passes. IsTrue passes → StepPasses self.old member) }
+        ensures passes { IfOk result (λ found. IfNone found (StepPasses self.old member)) }
     {
         let _places = self.classes.len();
         self.steps.reach(&mut self.graph, member + 1)?;
@@ -154,7 +164,7 @@ impl<'v, 'p> Sweep<'v, 'p> {
             self.classes,
             member,
         )?;
-        Ok(found.is_none())
+        decoded(alloc, &self.steps, found)
     }
 
     /// Takes in that it is equal there, however that was shown: what rests on it is mapped over its class's least place. It errs

@@ -58,15 +58,16 @@ fn cut_pair<L: Run>(board: &mut Board<'_, '_, L>, party: u32, pair: Needed, vect
 fn decide<L: Run>(
     board: &mut Board<'_, '_, L>,
     alloc: Global,
-    prover: &Prover<'_, '_>,
+    prover: &mut Prover<'_, '_>,
     party: u32,
     member: u32,
 ) -> Result<bool, AllocError>
     requires party { party < L.workers + 1 }
-    requires current { IsUnder L.pair L.k board.old.state.classes prover.now }
+    requires current { IsUnder L.pair L.k board.old.state.classes prover.old }
     requires needed { IsNeeded (places_of L.pair) board.old.state.classes member }
     requires wanted { IsCountedAt board.old.state member → ⊥ }
     requires below { AreCountedBelow (places_of L.pair) board.old.state member }
+    ensures kept { prover.new ≡ prover.old }
     ensures closes { Closes (places_of L.pair) party board.old board.new }
     ensures split { IfOk result (λ s. s ≡ true → class_count (places_of L.pair) board.old.state.classes < class_count (places_of L.pair) board.new.state.classes) }
     ensures counted { IfOk result (λ s. s ≡ false → (board.new.state.classes ≡ board.old.state.classes) × AreCountedBelow (places_of L.pair) board.new.state (member + 1)) }
@@ -89,14 +90,15 @@ fn decide<L: Run>(
 fn visit<L: Run>(
     board: &mut Board<'_, '_, L>,
     alloc: Global,
-    prover: &Prover<'_, '_>,
+    prover: &mut Prover<'_, '_>,
     party: u32,
     member: u32,
 ) -> Result<bool, AllocError>
     requires party { party < L.workers + 1 }
-    requires current { IsUnder L.pair L.k board.old.state.classes prover.now }
+    requires current { IsUnder L.pair L.k board.old.state.classes prover.old }
     requires place { member < places_of L.pair }
     requires below { AreCountedBelow (places_of L.pair) board.old.state member }
+    ensures kept { prover.new ≡ prover.old }
     ensures closes { Closes (places_of L.pair) party board.old board.new }
     ensures split { IfOk result (λ s. s ≡ true → class_count (places_of L.pair) board.old.state.classes < class_count (places_of L.pair) board.new.state.classes) }
     ensures counted { IfOk result (λ s. s ≡ false → (board.new.state.classes ≡ board.old.state.classes) × AreCountedBelow (places_of L.pair) board.new.state (member + 1)) }
@@ -115,9 +117,9 @@ fn pass<L: Run>(board: &mut Board<'_, '_, L>, alloc: Global, party: u32) -> Resu
     ensures counted { IfOk result (λ s. s ≡ false → AllCounted (places_of L.pair) board.new.state) }
 {
     let version = board.version().copy(alloc)?;
-    let prover = Prover::new(alloc, &version)?;
+    let mut prover = Prover::new(alloc, &version)?;
     for p in 0..board.places() {
-        if visit(board, alloc, &prover, party, p)? {
+        if visit(board, alloc, &mut prover, party, p)? {
             return Ok(true);
         }
     }

@@ -1,10 +1,10 @@
 -- What the answers to a version's two questions say of a needed pair.
-use Rattle.std.proofs.Common.{◌≡◌, ◌∙◌, ◌<◌, ◌⊎◌, ◌+◌, ℕ, Bool, true, false, not, List, length, refl, ap, sym, subst, arith, inl, inr, ⊎_elim, true≢false}
+use Rattle.std.proofs.Common.{◌≡◌, ◌∙◌, ◌<◌, ◌⊎◌, ◌+◌, ℕ, Bool, true, false, not, List, length, refl, ap, sym, subst, arith, inl, inr, ⊎_elim, true≢false, Option, Some, None, IfSome, IfNone}
 use Rattle.std.proofs.lemmas.List.Elements.{All-nil}
 use Rattle.circ_model.specs.Meaning.{Pair, Path, IsPath, IsRun, places_of, row_at, value_in}
 use Rattle.circ_model.specs.Correspondence.{HoldsIn, MaySplit, MaySplit.OfRun}
 use Rattle.circ_model.proofs.Rows.{length_row}
-use Rattle.class_partition.specs.Classes.{HoldIn, IsNeeded, Passes, needed}
+use Rattle.class_partition.specs.Classes.{Classes, HoldIn, IsNeeded, Passes, needed}
 use Rattle.sat_log.specs.Derivations.{Line}
 use Rattle.class_partition.proofs.Partition.{may_split_after}
 use Rattle.frame_unroll.specs.declared.found.Seen.{Seen}
@@ -12,9 +12,14 @@ use Rattle.frame_unroll.specs.declared.found.Found.{Found}
 use Rattle.frame_unroll.specs.declared.found.Found.TheVariants as found
 use Rattle.frame_unroll.specs.Found.{IsFound, IsSeen, NoneSought}
 use Rattle.frame_unroll.proofs.Members.{members_to, members_from}
-use Rattle.verdict_stamp.specs.declared.prover.Proof.TheVariants.{Splits}
-use Rattle.verdict_stamp.specs.Proofs.{IsProof}
-use Rattle.verdict_stamp.specs.Versions.{Standing, IsVersion, Split, IsPassed, Separates, base_of, step_of, base_question, step_question}
+use Rattle.verdict_stamp.specs.declared.prover.Proof.{Proof}
+use Rattle.verdict_stamp.specs.declared.prover.Proof.TheVariants.{Holds, Splits}
+use Rattle.pair_sweep.specs.Sweeps.{Extent}
+use Rattle.split_rows.specs.Rows.{IsRowApart}
+use Rattle.frame_graph.specs.Inductions.{BasePasses, StepPasses}
+use Rattle.frame_graph.proofs.Staying.{both_halves}
+use Rattle.verdict_stamp.specs.Proofs.{IsApart, IsProof, IsSettled, IsSplitOf}
+use Rattle.verdict_stamp.specs.Versions.{Standing, IsVersion, Split, IsPassed, Separates, base_of, step_of, base_question, step_question, extent_of, induction_of}
 
 -- two bits are equal or complements, and not both
 same_or_not : (x y : Bool) → (x ≡ y) ⊎ (x ≡ not y)
@@ -54,16 +59,6 @@ step_passes v m none path is len hold = holds_unless (row_at v.pair path v.k) (n
   asked = (0, omega arith, let e : v.k + 0 ≡ v.k = omega arith in subst (λ (s : ℕ). Separates (row_at v.pair path s) (needed v.classes m)) (sym e) apart);
 }))
 
-pub passes : (v : Standing) (m : ℕ) → NoneSought (base_of v) (base_question v m) → NoneSought (step_of v) (step_question v m) → Passes v.pair v.k v.classes m
-passes v m base step = record { base = base_passes v m base; step = step_passes v m step }
-
--- a row that splits a version's needed pair
-pub record IsSplitOf (v : Standing) (m : ℕ) (bits : List Bool) : Type 0 where
-  pub size : length bits ≡ places_of v.pair
-  pub may : MaySplit v.pair v.k bits
-  pub apart : Separates bits (needed v.classes m)
-  pub fails : Passes v.pair v.k v.classes m → ⊥
-
 -- a row that was seen in a frame of a run
 pub base_row : (v : Standing) (m : ℕ) (s : Seen) → IsVersion v → IsSeen (base_of v) (base_question v m) s → IsSplitOf v m s.bits
 base_row v m s is seen =
@@ -102,12 +97,15 @@ step_found v m f s is e h = step_row v m s is (subst (IsFound (step_of v) (step_
 pub splits : (v : Standing) (m : ℕ) (x : Split) (pair : Pair) (k : ℕ) (bits : List Bool) → pair ≡ v.pair → k ≡ v.k → x ≡ record { pair = pair; k = k; bits = bits } → IsSplitOf v m bits → IsProof v m (Splits x)
 splits v m x pair k bits ep ek ex s = subst (λ (z : Split). IsProof v m (Splits z)) (sym ex) (ep, ek, s.apart, s.may, s.fails)
 
-pub passed : (v : Standing) (m : ℕ) (f g : Found) (base step : List Line) → f ≡ found.None base → g ≡ found.None step → IsFound (base_of v) (base_question v m) f → IsFound (step_of v) (step_question v m) g
-    → IsNeeded (places_of v.pair) v.classes m → IsPassed (record { version = v; member = m; base_log = base; step_log = step })
-passed v m f g base step ef eg hf hg need =
-    let b = subst (IsFound (base_of v) (base_question v m)) ef hf in
-    let s = subst (IsFound (step_of v) (step_question v m)) eg hg in
-    record { is_needed = need; passes = passes v m b.0 s.0; base = b.1; step = s.1 }
+pub passed : (v : Standing) (m : ℕ) → BasePasses (induction_of v) m → StepPasses (induction_of v) m → IsNeeded (places_of v.pair) v.classes m → IsPassed (record { version = v; member = m })
+passed v m base step need = record { is_needed = need; passes = both_halves (induction_of v) m base step }
+
+-- nothing found: each half holds
+pub base_none : (v : Standing) (m : ℕ) (f : Found) (log : List Line) → f ≡ found.None log → IsFound (base_of v) (base_question v m) f → BasePasses (induction_of v) m
+base_none v m f log e h = let none = subst (IsFound (base_of v) (base_question v m)) e h in λ t lt run is. base_passes v m none.0 run is.is_run is.rows t lt
+
+pub step_none : (v : Standing) (m : ℕ) (f : Found) (log : List Line) → f ≡ found.None log → IsFound (step_of v) (step_question v m) f → StepPasses (induction_of v) m
+step_none v m f log e h = let none = subst (IsFound (step_of v) (step_question v m)) e h in λ path is. step_passes v m none.0 path is.is_path is.rows is.hold
 
 -- the accessors' product and k are the version's
 pub version_is : (v w : Standing) (pair : Pair) (k : ℕ) → w ≡ v → pair ≡ w.pair → k ≡ w.k → IsVersion w → (pair ≡ v.pair) × (k ≡ v.k) × IsVersion v
@@ -115,3 +113,30 @@ version_is v w pair k e ep ek is = (ep ∙ ap (λ (z : Standing). z.pair) e, ek 
 
 pub may_by : (v : Standing) (pair : Pair) (k : ℕ) (bits : List Bool) → pair ≡ v.pair → k ≡ v.k → MaySplit v.pair v.k bits → MaySplit pair k bits
 may_by v pair k bits ep ek may = subst (λ (n : ℕ). MaySplit pair n bits) (sym ek) (subst (λ (p : Pair). MaySplit p v.k bits) (sym ep) may)
+
+-- a row that was answered
+pub split_of : (v : Standing) (m : ℕ) (o : Option (List Bool)) (row : List Bool) → o ≡ Some row → IfSome o (IsSplitOf v m) → IsSplitOf v m row
+split_of v m o row e = subst (λ (x : Option (List Bool)). IfSome x (IsSplitOf v m)) e
+
+-- a row that is held, for the pair, k and classes of a version
+pub held_is : (v : Standing) (e : Extent) (classes : Classes) (m : ℕ) (o : Option (List Bool)) (row : List Bool) → e ≡ extent_of v → classes ≡ v.classes → o ≡ Some row
+    → IfSome o (IsRowApart e.pair e.k classes m) → IsRowApart v.pair v.k v.classes m row
+held_is v e classes m o row ee ec eo has =
+    subst (λ (x : Extent). IsRowApart x.pair x.k v.classes m row) ee
+    (subst (λ (z : Classes). IsRowApart e.pair e.k z m row) ec (subst (λ (x : Option (List Bool)). IfSome x (IsRowApart e.pair e.k classes m)) eo has))
+
+-- and the vector of such a row
+pub apart_of : (v w : Standing) (m : ℕ) (x : Split) (pair : Pair) (k : ℕ) (bits : List Bool) → v ≡ w → pair ≡ v.pair → k ≡ v.k → x ≡ record { pair = pair; k = k; bits = bits }
+    → IsRowApart v.pair v.k v.classes m bits → IsApart w m x
+apart_of v w m x pair k bits ev ep ek ex is = subst (λ (z : Standing). IsApart z m x) ev (subst (IsApart v m) (sym ex) (ep, ek, is.apart, is.may))
+
+pub apart_by : (v w : Standing) (m : ℕ) (o : Option Split) (x : Split) → v ≡ w → o ≡ Some x → IfSome o (IsApart v m) → IsApart w m x
+apart_by v w m o x ev eo has = subst (λ (z : Standing). IsApart z m x) ev (subst (λ (y : Option Split). IfSome y (IsApart v m)) eo has)
+
+-- an exact answer settles the pair
+pub settles : (v w : Standing) (m : ℕ) (p : Proof) → v ≡ w → IsProof v m p → IsSettled w m p
+settles v w m (Holds x) e is = subst (λ (z : Standing). IsSettled z m (Holds x)) e is
+settles v w m (Splits x) e is = subst (λ (z : Standing). IsSettled z m (Splits x)) e (is.0, is.1, is.2, is.3)
+
+pub none_by : (X : Type 0) (P : Type 0) (o : Option X) → o ≡ None → IfNone o P → P
+none_by X P o e h = subst (λ (y : Option X). IfNone y P) e h

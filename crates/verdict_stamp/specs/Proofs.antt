@@ -1,12 +1,29 @@
 -- What a proof of a version's needed pair answers.
-use Rattle.std.specs.Prelude.{◌≡◌, ℕ}
+use Rattle.std.specs.Prelude.{◌≡◌, ℕ, List, length, Bool}
+use Rattle.circ_model.specs.Meaning.{places_of}
 use Rattle.circ_model.specs.Correspondence.{MaySplit}
 use Rattle.class_partition.specs.Classes.{Passes, needed}
 use Rattle.verdict_stamp.specs.declared.prover.Proof.{Proof}
 use Rattle.verdict_stamp.specs.declared.prover.Proof.TheVariants.{Holds, Splits}
-use Rattle.verdict_stamp.specs.Versions.{Standing, Separates}
+use Rattle.verdict_stamp.specs.Versions.{Split, Standing, Separates}
 
 -- it holds exactly where the pair passes; else a vector of the same product and k separates it
 abbrev pub IsProof : Standing → ℕ → Proof → Type 0
 IsProof v m (Holds w) = (w.version ≡ v) × (w.member ≡ m) × Passes v.pair v.k v.classes m
 IsProof v m (Splits x) = (x.pair ≡ v.pair) × (x.k ≡ v.k) × Separates x.bits (needed v.classes m) × MaySplit v.pair v.k x.bits × (Passes v.pair v.k v.classes m → ⊥)
+
+-- a row that separates a version's needed pair, which then doesn't pass
+pub record IsSplitOf (v : Standing) (m : ℕ) (bits : List Bool) : Type 0 where
+  pub size : length bits ≡ places_of v.pair
+  pub may : MaySplit v.pair v.k bits
+  pub apart : Separates bits (needed v.classes m)
+  pub fails : Passes v.pair v.k v.classes m → ⊥
+
+-- a vector of the same product and k that separates a needed pair
+abbrev pub IsApart : Standing → ℕ → Split → Type 0
+IsApart v m x = (x.pair ≡ v.pair) × (x.k ≡ v.k) × Separates x.bits (needed v.classes m) × MaySplit v.pair v.k x.bits
+
+-- a pair is settled where it passes, or some vector separates it
+abbrev pub IsSettled : Standing → ℕ → Proof → Type 0
+IsSettled v m (Holds w) = (w.version ≡ v) × (w.member ≡ m) × Passes v.pair v.k v.classes m
+IsSettled v m (Splits x) = IsApart v m x

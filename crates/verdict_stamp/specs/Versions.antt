@@ -4,10 +4,11 @@ use Rattle.circ_model.specs.Meaning.{Pair, places_of, value_in}
 use Rattle.circ_model.specs.Runs.{phases}
 use Rattle.circ_model.specs.Correspondence.{MaySplit}
 use Rattle.class_partition.specs.Classes.{Classes, ArePartition, IsNeeded, KeepsGreatest, Passes, class_count, needed, one_class}
-use Rattle.sat_log.specs.Derivations.{Line, IsAccepted}
+use Rattle.frame_graph.specs.Inductions.{Induction}
+use Rattle.pair_sweep.specs.Sweeps.{Extent}
 use Rattle.frame_unroll.specs.declared.question.Question.{Question}
-use Rattle.frame_unroll.specs.Unrolled.{Unrolling, after_classes, formula_of, from_reset}
-use Rattle.frame_unroll.specs.Found.{asking, asks}
+use Rattle.frame_unroll.specs.Unrolled.{Unrolling, after_classes, from_reset}
+use Rattle.frame_unroll.specs.Found.{asks}
 
 -- classes of a pair's places, for induction over k frames, and how many splits they went through
 pub record Standing : Type 0 where
@@ -58,21 +59,23 @@ base_question v m = asks (needed v.classes m).0 (needed v.classes m).1 0 (v.k - 
 abbrev pub step_question : Standing → ℕ → Question
 step_question v m = asks (needed v.classes m).0 (needed v.classes m).1 v.k v.k
 
--- a place that passed under a version, and the logs of the two questions
+-- a place that passed under a version
 pub record Passed : Type 0 where
   pub version : Standing
   pub member : ℕ
-  pub base_log : List Line
-  pub step_log : List Line
 
 pub record IsPassed (w : Passed) : Type 0 where
   pub is_needed : IsNeeded (places_of w.version.pair) w.version.classes w.member
   pub passes : Passes w.version.pair w.version.k w.version.classes w.member
-  pub base : IsAccepted (formula_of (asking (base_of w.version) (base_question w.version w.member))) w.base_log
-  pub step : IsAccepted (formula_of (asking (step_of w.version) (step_question w.version w.member))) w.step_log
 
--- the frames are those of the version
-pub record IsProver (v : Standing) (base step : Unrolling) : Type 0 where
-  pub version : IsVersion v
-  pub base_is : base ≡ base_of v
-  pub step_is : step ≡ step_of v
+-- the induction that a version's pairs are proved by
+abbrev pub induction_of : Standing → Induction
+induction_of v = record { pair = v.pair; k = v.k; classes = v.classes }
+
+-- and the pair and k alone
+abbrev pub extent_of : Standing → Extent
+extent_of v = record { pair = v.pair; k = v.k }
+
+-- frames that were made are these
+abbrev pub IsOf : Unrolling → Unrolling → Type 0
+IsOf frames made = made ≡ frames

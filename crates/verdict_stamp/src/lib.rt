@@ -11,7 +11,7 @@ mod verdict;
 mod version;
 mod versions;
 
-pub use prover::{Proof, Prover, Workspaces};
+pub use prover::{Proof, Prover, ProverMemory};
 pub use refine::greatest_classes;
 pub use vector::Vector;
 pub use verdict::Verdict;

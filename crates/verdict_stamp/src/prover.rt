@@ -1,11 +1,12 @@
-//! Proving the needed pairs of a version by k-induction. The frames are made once, and lent to each question.
-ghost use Rattle.std.specs.Prelude.{◌≡◌, ◌<◌, ◌≤◌, ◌-◌, ◌/◌, ℕ, IfOk, length};
+//! Proving the needed pairs of a version by k-induction: by the sweep where that shows it, and else by questions over whole
+//! frames, so that the answer is exact whatever the sweep leaves open.
+ghost use Rattle.std.specs.Prelude.{◌≡◌, ◌<◌, ◌≤◌, ◌-◌, ◌/◌, ℕ, IsTrue, IfOk, IfNone, IfSome, length};
 ghost use Rattle.circ_model.specs.Meaning.{places_of};
-ghost use Rattle.circ_model.specs.Correspondence.{MaySplit};
 ghost use Rattle.class_partition.specs.Classes.{IsNeeded, least_of, needed};
+ghost use Rattle.frame_graph.specs.Inductions.{BasePasses, StepPasses};
 ghost use Rattle.frame_unroll.specs.Found.{IsFound};
-ghost use Rattle.verdict_stamp.specs.Versions.{base_of, step_of, base_question, step_question};
-ghost use Rattle.verdict_stamp.specs.Proofs.{IsProof};
+ghost use Rattle.verdict_stamp.specs.Versions.{IsOf, IsVersion, base_of, step_of, base_question, step_question, induction_of};
+ghost use Rattle.verdict_stamp.specs.Proofs.{IsApart, IsProof, IsSettled, IsSplitOf};
 
 use crate::vector::Vector;
 use crate::verdict::Verdict;
@@ -14,6 +15,9 @@ use bit_rows::BitRow;
 use circ_model::Lit;
 use class_partition::{Classes, Needed};
 use frame_unroll::{Found, Prepared, Workspace};
+use pair_sweep::{Sweep, SweepMemory};
+use product_machine::Product;
+use split_rows::SplitRows;
 use std::alloc::{AllocError, Global};
 use std::marker::Model;
 
@@ -26,39 +30,70 @@ pub enum Proof<'v, 'p> {
     Splits(Vector<'p>),
 }
 
-/// The solver's memory for the questions of one proof after another.
+/// What the proofs of one version leave to those of the next: the graph with all that was proved of it, the frames from reset,
+/// and the solver's memory.
 #[derive(Drop)]
-pub struct Workspaces {
-    base: Workspace,
-    step: Workspace,
+pub struct ProverMemory<'p> {
+    sweep: SweepMemory<'p>,
+    rows: SplitRows<'p>,
+    base: Option<Prepared<'p>>,
+    resets: Workspace,
+    steps: Workspace,
 }
 
-impl Workspaces {
-    /// Nothing is kept yet.
-    pub fn new() -> Workspaces {
-        Workspaces {
-            base: Workspace::new(),
-            step: Workspace::new(),
-        }
+impl<'p> Model for ProverMemory<'p> {
+    ghost use Rattle.std.specs.Prelude.{◌≡◌, IfSome};
+    ghost use Rattle.frame_unroll.specs.Unrolled.{from_reset};
+    ghost use Rattle.pair_sweep.specs.Sweeps.{Extent};
+    ghost use Rattle.verdict_stamp.specs.Versions.{IsOf};
+
+    ghost Value = { Extent };
+
+    ghost view = { λ m. m.sweep };
+
+    ghost invariant = { λ m. (m.rows ≡ m.sweep) × IfSome m.base (IsOf (from_reset m.sweep.pair m.sweep.k)) };
+}
+
+impl<'p> ProverMemory<'p> {
+    /// Nothing is proved yet of this pair, for induction over k frames. It errs for want of memory alone.
+    pub fn new(alloc: Global, product: &'p Product, k: u32) -> Result<ProverMemory<'p>, AllocError>
+        requires few { k ≤ 16 }
+        ensures { IfOk result (λ m. m ≡ record { pair = product.entry.now; k = k }) }
+    {
+        Ok(ProverMemory {
+            sweep: SweepMemory::new(alloc, product, k)?,
+            rows: SplitRows::new(alloc, product, k),
+            base: None,
+            resets: Workspace::new(),
+            steps: Workspace::new(),
+        })
     }
 }
 
-/// A version with the frames of its questions. The version is lent: by a list of published ones, so that workers share it.
+/// A version with what its pairs are proved by: the sweep, and the frames of the questions where they are asked. The version
+/// is lent: by a list of published ones, so that workers share it.
 #[derive(Drop)]
 pub struct Prover<'v, 'p> {
     current: &'v Version<'p>,
-    base: Prepared<'p>,
-    step: Prepared<'p>,
+    sweep: Sweep<'v, 'p>,
+    rows: SplitRows<'p>,
+    base: Option<Prepared<'p>>,
+    step: Option<Prepared<'p>>,
+    resets: Workspace,
+    steps: Workspace,
 }
 
 impl<'v, 'p> Model for Prover<'v, 'p> {
-    ghost use Rattle.verdict_stamp.specs.Versions.{Standing, IsProver};
+    ghost use Rattle.std.specs.Prelude.{◌≡◌, IfSome};
+    ghost use Rattle.verdict_stamp.specs.Versions.{Standing, IsOf, IsVersion, base_of, step_of, extent_of, induction_of};
 
     ghost Value = { Standing };
 
     ghost view = { λ p. p.current.now };
 
-    ghost invariant = { λ p. IsProver p.current.now p.base p.step };
+    ghost invariant = { λ p. IsVersion p.current.now × (p.sweep ≡ induction_of p.current.now) × (p.rows ≡ extent_of p.current.now)
+        × IfSome p.base (IsOf (base_of p.current.now))
+        × IfSome p.step (IsOf (step_of p.current.now)) };
 }
 
 // The literals of a needed pair.
@@ -77,19 +112,122 @@ fn literals_of(classes: &Classes, pair: Needed) -> (Lit, Lit)
     (Lit::of(pair.rep, false), Lit::of(pair.member, sign))
 }
 
+// Whether a run has the pair apart in one of its first k frames, asked over whole frames, which are made where they aren't yet.
+fn ask_base<'p>(
+    alloc: Global,
+    frames: &mut Option<Prepared<'p>>,
+    work: &mut Workspace,
+    version: &Version<'p>,
+    pair: Needed,
+) -> Result<Found, AllocError>
+    requires version { IsVersion version.now }
+    requires place { pair.member < places_of version.now.pair }
+    requires rep { pair.rep ≡ least_of version.now.classes pair.member }
+    requires frames { IfSome frames.old (IsOf (base_of version.now)) }
+    ensures frames { IfSome frames.new (IsOf (base_of version.now)) }
+    ensures found { IfOk result (IsFound (base_of version.now) (base_question version.now pair.member)) }
+{
+    let product = version.product();
+    let _places = product.len();
+    let (a, b) = literals_of(version.classes(), pair);
+    let made = match frames.take() {
+        Some(made) => made,
+        None => Prepared::reset_frames(alloc, product, version.k())?,
+    };
+    let found = made.find_in(alloc, work, a, b, 0, version.k() - 1);
+    *frames = Some(made);
+    found
+}
+
+// Whether a path has it apart after k frames in which the classes hold.
+fn ask_step<'p>(
+    alloc: Global,
+    frames: &mut Option<Prepared<'p>>,
+    work: &mut Workspace,
+    version: &Version<'p>,
+    pair: Needed,
+) -> Result<Found, AllocError>
+    requires version { IsVersion version.now }
+    requires place { pair.member < places_of version.now.pair }
+    requires rep { pair.rep ≡ least_of version.now.classes pair.member }
+    requires frames { IfSome frames.old (IsOf (step_of version.now)) }
+    ensures frames { IfSome frames.new (IsOf (step_of version.now)) }
+    ensures found { IfOk result (IsFound (step_of version.now) (step_question version.now pair.member)) }
+{
+    let product = version.product();
+    let _places = product.len();
+    let k = version.k();
+    let (a, b) = literals_of(version.classes(), pair);
+    let made = match frames.take() {
+        Some(made) => made,
+        None => Prepared::step_frames(alloc, product, k, version.classes())?,
+    };
+    let found = made.find_in(alloc, work, a, b, k, k);
+    *frames = Some(made);
+    found
+}
+
 impl<'v, 'p> Prover<'v, 'p> {
-    /// Makes the frames: k from reset, and k + 1 in all but the last of which the classes hold.
+    /// In memory of its own. It errs for want of memory alone.
     pub fn new(alloc: Global, version: &'v Version<'p>) -> Result<Prover<'v, 'p>, AllocError>
         ensures { IfOk result (λ p. p ≡ version.now) }
     {
-        let product = version.product();
-        let base = Prepared::reset_frames(alloc, product, version.k())?;
-        let step = Prepared::step_frames(alloc, product, version.k(), version.classes())?;
+        let memory = ProverMemory::new(alloc, version.product(), version.k())?;
+        Prover::over(alloc, memory, version)
+    }
+
+    /// In the memory of earlier proofs, of any version of the same pair and k. It errs for want of memory alone, and what it was
+    /// given is then gone.
+    pub fn over(
+        alloc: Global,
+        memory: ProverMemory<'p>,
+        version: &'v Version<'p>,
+    ) -> Result<Prover<'v, 'p>, AllocError>
+        requires pair { memory.pair ≡ version.now.pair }
+        requires k { memory.k ≡ version.now.k }
+        ensures { IfOk result (λ p. p ≡ version.now) }
+    {
+        let _product = version.product();
+        let ProverMemory {
+            sweep,
+            mut rows,
+            base,
+            resets,
+            steps,
+        } = memory;
+        let sweep = Sweep::new(sweep, version.classes())?;
+        rows.turn_to(alloc, version.classes())?;
         Ok(Prover {
             current: version,
+            sweep,
+            rows,
             base,
-            step,
+            step: None,
+            resets,
+            steps,
         })
+    }
+
+    /// The memory for the proofs of another version.
+    pub fn into_memory(self) -> ProverMemory<'p>
+        ensures pair { result.pair ≡ self.entry.pair }
+        ensures k { result.k ≡ self.entry.k }
+    {
+        let Prover {
+            sweep,
+            rows,
+            base,
+            resets,
+            steps,
+            ..
+        } = self;
+        ProverMemory {
+            sweep: sweep.into_memory(),
+            rows,
+            base,
+            resets,
+            steps,
+        }
     }
 
     /// The version whose pairs are proved.
@@ -99,78 +237,118 @@ impl<'v, 'p> Prover<'v, 'p> {
         self.current
     }
 
-    // Whether a run has the pair apart in one of its first k frames.
-    fn ask_base(
-        &self,
-        alloc: Global,
-        work: &mut Workspace,
-        pair: Needed,
-    ) -> Result<Found, AllocError>
-        requires place { pair.member < places_of self.now.pair }
-        requires rep { pair.rep ≡ least_of self.now.classes pair.member }
-        ensures { IfOk result (IsFound (base_of self.now) (base_question self.now pair.member)) }
+    // A row that has the pair apart in one of the first k frames of a run, or none.
+    fn base_row(&mut self, alloc: Global, pair: Needed) -> Result<Option<BitRow>, AllocError>
+        requires place { pair.member < places_of self.old.pair }
+        requires rep { pair.rep ≡ least_of self.old.classes pair.member }
+        ensures kept { self.new ≡ self.old }
+        ensures none { IfOk result (λ row. IfNone row (BasePasses (induction_of self.old) pair.member)) }
+        ensures some { IfOk result (λ row. IfSome row (IsSplitOf self.old pair.member)) }
     {
-        let version = self.current;
-        let _places = version.product().len();
-        let (a, b) = literals_of(version.classes(), pair);
-        self.base.find_in(alloc, work, a, b, 0, version.k() - 1)
-    }
-
-    // Whether a path has it apart after k frames in which the classes hold.
-    fn ask_step(
-        &self,
-        alloc: Global,
-        work: &mut Workspace,
-        pair: Needed,
-    ) -> Result<Found, AllocError>
-        requires place { pair.member < places_of self.now.pair }
-        requires rep { pair.rep ≡ least_of self.now.classes pair.member }
-        ensures { IfOk result (IsFound (step_of self.now) (step_question self.now pair.member)) }
-    {
-        let version = self.current;
-        let _places = version.product().len();
-        let (a, b) = literals_of(version.classes(), pair);
-        self.step
-            .find_in(alloc, work, a, b, version.k(), version.k())
-    }
-
-    /// Proves a needed pair: it holds exactly where it passes, in the first k frames of every run and after k frames in
-    /// which the classes hold; else a vector separates it. It works in the memory of earlier proofs, of any version.
-    pub fn prove_in(
-        &self,
-        alloc: Global,
-        work: &mut Workspaces,
-        pair: Needed,
-    ) -> Result<Proof<'v, 'p>, AllocError>
-        requires needed { IsNeeded (places_of self.now.pair) self.now.classes pair.member }
-        requires rep { pair.rep ≡ least_of self.now.classes pair.member }
-        ensures { IfOk result (IsProof self.now pair.member) }
-    {
-        let version = self.version();
-        let product = version.product();
-        let k = version.k();
-        let Workspaces {
-            base: resets,
-            step: steps,
-        } = work;
-        match self.ask_base(alloc, resets, pair)? {
-            Found::Path(seen) => Ok(Proof::Splits(Vector::of(product, k, seen.bits))),
-            Found::None(base) => match self.ask_step(alloc, steps, pair)? {
-                Found::Path(seen) => Ok(Proof::Splits(Vector::of(product, k, seen.bits))),
-                Found::None(step) => {
-                    Ok(Proof::Holds(Verdict::of(version, pair.member, base, step)))
-                }
-            },
+        match self.sweep.base_difference(alloc, pair.member)? {
+            None => return Ok(None),
+            Some(_) => {}
+        }
+        match ask_base(alloc, &mut self.base, &mut self.resets, self.current, pair)? {
+            Found::Path(seen) => Ok(Some(seen.bits)),
+            Found::None(_) => Ok(None),
         }
     }
 
-    /// The same in memory of its own.
-    pub fn prove(&self, alloc: Global, pair: Needed) -> Result<Proof<'v, 'p>, AllocError>
-        requires needed { IsNeeded (places_of self.now.pair) self.now.classes pair.member }
-        requires rep { pair.rep ≡ least_of self.now.classes pair.member }
-        ensures { IfOk result (IsProof self.now pair.member) }
+    // A row that has it apart after k frames in which the classes hold, or none.
+    fn step_row(&mut self, alloc: Global, pair: Needed) -> Result<Option<BitRow>, AllocError>
+        requires place { pair.member < places_of self.old.pair }
+        requires rep { pair.rep ≡ least_of self.old.classes pair.member }
+        ensures kept { self.new ≡ self.old }
+        ensures none { IfOk result (λ row. IfNone row (StepPasses (induction_of self.old) pair.member)) }
+        ensures some { IfOk result (λ row. IfSome row (IsSplitOf self.old pair.member)) }
     {
-        let mut work = Workspaces::new();
-        self.prove_in(alloc, &mut work, pair)
+        match self.sweep.step_difference(alloc, pair.member)? {
+            None => return Ok(None),
+            Some(_) => {}
+        }
+        match ask_step(alloc, &mut self.step, &mut self.steps, self.current, pair)? {
+            Found::Path(seen) => Ok(Some(seen.bits)),
+            Found::None(_) => {
+                self.sweep.take_passed(pair.member)?;
+                Ok(None)
+            }
+        }
+    }
+
+    /// Proves a needed pair: it holds exactly where it passes, in the first k frames of every run and after k frames in
+    /// which the classes hold; else a vector separates it. It errs for want of memory alone.
+    pub fn prove(&mut self, alloc: Global, pair: Needed) -> Result<Proof<'v, 'p>, AllocError>
+        requires needed { IsNeeded (places_of self.old.pair) self.old.classes pair.member }
+        requires rep { pair.rep ≡ least_of self.old.classes pair.member }
+        ensures kept { self.new ≡ self.old }
+        ensures proof { IfOk result (IsProof self.old pair.member) }
+    {
+        let version = self.current;
+        let product = version.product();
+        let k = version.k();
+        if let Some(row) = self.base_row(alloc, pair)? {
+            return Ok(Proof::Splits(Vector::of(product, k, row)));
+        }
+        if let Some(row) = self.step_row(alloc, pair)? {
+            return Ok(Proof::Splits(Vector::of(product, k, row)));
+        }
+        Ok(Proof::Holds(Verdict::of(version, pair.member)))
+    }
+
+    // A vector of a row that is held, where one separates the pair.
+    fn held(&self, alloc: Global, pair: Needed) -> Result<Option<Vector<'p>>, AllocError>
+        requires place { pair.member < places_of self.now.pair }
+        requires rep { pair.rep ≡ least_of self.now.classes pair.member }
+        ensures { IfOk result (λ v. IfSome v (IsApart self.now pair.member)) }
+    {
+        let version = self.current;
+        let product = version.product();
+        match self.rows.apart(alloc, version.classes(), pair)? {
+            Some(row) => Ok(Some(Vector::of(product, version.k(), row))),
+            None => Ok(None),
+        }
+    }
+
+    // Whether the pair passes by the sweep alone. Where the step seems to fail, the solver's model is run on.
+    fn passes_by_sweep(&mut self, alloc: Global, pair: Needed) -> Result<bool, AllocError>
+        requires place { pair.member < places_of self.old.pair }
+        ensures kept { self.new ≡ self.old }
+        ensures base { IfOk result (λ passes. IsTrue passes → BasePasses (induction_of self.old) pair.member) }
+        ensures step { IfOk result (λ passes. IsTrue passes → StepPasses (induction_of self.old) pair.member) }
+    {
+        if let Some(_) = self.sweep.base_difference(alloc, pair.member)? {
+            return Ok(false);
+        }
+        match self.sweep.step_difference(alloc, pair.member)? {
+            Some(bits) => {
+                let classes = self.current.classes();
+                self.rows.run_on(alloc, classes, bits.as_slice())?;
+                Ok(false)
+            }
+            None => Ok(true),
+        }
+    }
+
+    /// Settles a needed pair: it holds, or a vector separates it. Rows that simulation found for other pairs, or other versions,
+    /// are tried first, so a vector says nothing of whether the pair passes under this version: `prove` tells that. It errs for
+    /// want of memory alone.
+    pub fn settle(&mut self, alloc: Global, pair: Needed) -> Result<Proof<'v, 'p>, AllocError>
+        requires needed { IsNeeded (places_of self.old.pair) self.old.classes pair.member }
+        requires rep { pair.rep ≡ least_of self.old.classes pair.member }
+        ensures kept { self.new ≡ self.old }
+        ensures settled { IfOk result (IsSettled self.old pair.member) }
+    {
+        self.rows.run_ahead(alloc)?;
+        if let Some(vector) = self.held(alloc, pair)? {
+            return Ok(Proof::Splits(vector));
+        }
+        if self.passes_by_sweep(alloc, pair)? {
+            return Ok(Proof::Holds(Verdict::of(self.current, pair.member)));
+        }
+        if let Some(vector) = self.held(alloc, pair)? {
+            return Ok(Proof::Splits(vector));
+        }
+        self.prove(alloc, pair)
     }
 }

@@ -13,19 +13,20 @@ use std::alloc::{AllocError, Global};
 // Proves a needed pair of the prover's version, and splits the copy where that fails. Answers how many classes that adds.
 fn prove_pair(
     alloc: Global,
-    prover: &Prover<'_, '_>,
+    prover: &mut Prover<'_, '_>,
     pair: Needed,
     next: &mut Version<'_>,
 ) -> Result<u32, AllocError>
-    requires needed { IsNeeded (places_of prover.now.pair) prover.now.classes pair.member }
-    requires rep { pair.rep ≡ least_of prover.now.classes pair.member }
-    requires product { next.old.pair ≡ prover.now.pair }
-    requires k { next.old.k ≡ prover.now.k }
-    ensures product { next.new.pair ≡ prover.now.pair }
-    ensures k { next.new.k ≡ prover.now.k }
-    ensures count { IfOk result (λ added. class_count (places_of prover.now.pair) next.new.classes ≡ class_count (places_of prover.now.pair) next.old.classes + added) }
-    ensures none { IfOk result (λ added. added ≡ 0 → next.old.classes ≡ prover.now.classes
-        → (next.new.classes ≡ prover.now.classes) × Passes prover.now.pair prover.now.k prover.now.classes pair.member) }
+    requires needed { IsNeeded (places_of prover.old.pair) prover.old.classes pair.member }
+    requires rep { pair.rep ≡ least_of prover.old.classes pair.member }
+    requires product { next.old.pair ≡ prover.old.pair }
+    requires k { next.old.k ≡ prover.old.k }
+    ensures kept { prover.new ≡ prover.old }
+    ensures product { next.new.pair ≡ prover.old.pair }
+    ensures k { next.new.k ≡ prover.old.k }
+    ensures count { IfOk result (λ added. class_count (places_of prover.old.pair) next.new.classes ≡ class_count (places_of prover.old.pair) next.old.classes + added) }
+    ensures none { IfOk result (λ added. added ≡ 0 → next.old.classes ≡ prover.old.classes
+        → (next.new.classes ≡ prover.old.classes) × Passes prover.old.pair prover.old.k prover.old.classes pair.member) }
 {
     match prover.prove(alloc, pair)? {
         Proof::Holds(_) => Ok(0),
@@ -36,18 +37,19 @@ fn prove_pair(
 // Proves a place's needed pair, unless it has none or the copy has it apart.
 fn prove_place(
     alloc: Global,
-    prover: &Prover<'_, '_>,
+    prover: &mut Prover<'_, '_>,
     member: u32,
     next: &mut Version<'_>,
 ) -> Result<u32, AllocError>
-    requires place { member < places_of prover.now.pair }
-    requires product { next.old.pair ≡ prover.now.pair }
-    requires k { next.old.k ≡ prover.now.k }
-    ensures product { next.new.pair ≡ prover.now.pair }
-    ensures k { next.new.k ≡ prover.now.k }
-    ensures count { IfOk result (λ added. class_count (places_of prover.now.pair) next.new.classes ≡ class_count (places_of prover.now.pair) next.old.classes + added) }
-    ensures none { IfOk result (λ added. added ≡ 0 → next.old.classes ≡ prover.now.classes
-        → (next.new.classes ≡ prover.now.classes) × Passes prover.now.pair prover.now.k prover.now.classes member) }
+    requires place { member < places_of prover.old.pair }
+    requires product { next.old.pair ≡ prover.old.pair }
+    requires k { next.old.k ≡ prover.old.k }
+    ensures kept { prover.new ≡ prover.old }
+    ensures product { next.new.pair ≡ prover.old.pair }
+    ensures k { next.new.k ≡ prover.old.k }
+    ensures count { IfOk result (λ added. class_count (places_of prover.old.pair) next.new.classes ≡ class_count (places_of prover.old.pair) next.old.classes + added) }
+    ensures none { IfOk result (λ added. added ≡ 0 → next.old.classes ≡ prover.old.classes
+        → (next.new.classes ≡ prover.old.classes) × Passes prover.old.pair prover.old.k prover.old.classes member) }
 {
     let rep = prover.version().classes().rep(member);
     if rep == member {
@@ -67,11 +69,11 @@ fn round<'p>(alloc: Global, version: Version<'p>) -> Result<(Version<'p>, u32), 
     ensures none { IfOk result (λ r. r.1 ≡ 0 → AreOfGreatest version.entry.pair version.entry.k r.0.classes) }
 {
     let mut next = version.copy(alloc)?;
-    let prover = Prover::new(alloc, &version)?;
+    let mut prover = Prover::new(alloc, &version)?;
     let n = next.product().len();
     let mut added: u32 = 0;
     for member in 0..n {
-        added += prove_place(alloc, &prover, member, &mut next)?;
+        added += prove_place(alloc, &mut prover, member, &mut next)?;
     }
     Ok((next, added))
 }

@@ -16,6 +16,7 @@ loop-p-preserved g c =
       below = r.1;
       same = r.0 ∙ c.loop-p.invariant.same;
       closes = closes_more (places_of g.L.Run.pair) c.args.party c.args.board.now c.loop-p.board c.visit.new.board c.loop-p.invariant.closes c.visit.ensures.closes;
+      prover = c.visit.ensures.kept ∙ c.loop-p.invariant.prover;
       ends = c.loop-p.invariant.ends;
     }
 

@@ -9,5 +9,6 @@ invariant-loop-p g l = record {
   below : AreCountedBelow (places_of g.L.Run.pair) l.board.state l.p;
   same : l.board.state.classes ≡ l.fn.board.state.classes;
   closes : Closes (places_of g.L.Run.pair) l.fn.party l.fn.board l.board;
+  prover : l.prover ≡ l.initial.prover;
   ends : l.p-end ≡ places_of g.L.Run.pair;
 }

@@ -8,15 +8,17 @@ pub overflow_add-added : goal.overflow_add-added
 overflow_add-added c =
     let v : Standing = c.args.version in
     let e = c.in_ok-added.ensures in
-    let is = round_more v c.in_ok-prover.prover c.loop-member.next c.prove_place.new.next c.loop-member.added c.in_ok-added.field-0 c.loop-member.member c.in_ok-prover.ensures c.loop-member.invariant e.product e.k e.count e.none in
+    let is = round_more v c.loop-member.prover c.loop-member.next c.prove_place.new.next c.loop-member.added c.in_ok-added.field-0 c.loop-member.member c.loop-member.invariant.0 c.loop-member.invariant.1 e.product e.k e.count e.none in
     let n : c.len-n.result ≡ places_of v.pair = c.len-n.ensures.places ∙ ap places_of (c.product.ensures.pair ∙ ap (λ (z : Standing). z.pair) c.in_ok-next.ensures) in
     let few = few_added v c.prove_place.new.next (c.loop-member.added + c.in_ok-added.field-0) (c.loop-member.member + 1) is in
     omega (arith, few, n, c.len-n.ensures.few)
 
 pub loop-member-preserved : goal.loop-member-preserved
 loop-member-preserved c =
-    let e = c.in_ok-added.ensures in
-    round_more c.args.version c.in_ok-prover.prover c.loop-member.next c.prove_place.new.next c.loop-member.added c.in_ok-added.field-0 c.loop-member.member c.in_ok-prover.ensures c.loop-member.invariant e.product e.k e.count e.none
+    let e = c.in_ok-added.ensures in (
+      e.kept ∙ c.loop-member.invariant.0,
+      round_more c.args.version c.loop-member.prover c.loop-member.next c.prove_place.new.next c.loop-member.added c.in_ok-added.field-0 c.loop-member.member c.loop-member.invariant.0 c.loop-member.invariant.1 e.product e.k e.count e.none,
+    )
 
 pub returns-clause-none : goal.returns-clause-none
 returns-clause-none c z =
@@ -24,5 +26,5 @@ returns-clause-none c z =
     let n : c.len-n.result ≡ places_of v.pair = c.len-n.ensures.places ∙ ap places_of (c.product.ensures.pair ∙ ap (λ (z : Standing). z.pair) c.in_ok-next.ensures) in
     let is = subst IsVersion c.version.view_is c.version.invariant in
     let end = c.loop-member-test.false in
-    let none = c.loop-member.invariant.none z in
+    let none = c.loop-member.invariant.1.none z in
     greatest_is v c.loop-member.next.classes is (λ q lt. none.1 q (omega (arith, lt, n, end))) none.0

@@ -1,5 +1,5 @@
 use Rattle.pair_sweep.proofs.Sweeping.{sweep_reached, sweep_merged}
-use Rattle.pair_sweep.proofs.sweep.Sweep.step_passes.Goals as goal
+use Rattle.pair_sweep.proofs.sweep.Sweep.step_difference.Goals as goal
 
 pub invariant_of-self : goal.invariant_of-self
 invariant_of-self c =

@@ -1,0 +1,16 @@
+-- Rows that may split, and those that separate a needed pair.
+use Rattle.std.specs.Prelude.{◌≡◌, ℕ, List, length, All, Bool}
+use Rattle.circ_model.specs.Meaning.{Pair, places_of}
+use Rattle.circ_model.specs.Correspondence.{MaySplit}
+use Rattle.class_partition.specs.Classes.{Classes, needed}
+use Rattle.step_lanes.specs.Rows.{MaskedRows, Separates}
+
+-- blocks of a pair, for induction over k frames
+abbrev pub AreOf : Pair → ℕ → List MaskedRows → Type 0
+AreOf pair k blocks = All (λ (b : MaskedRows). (b.pair ≡ pair) × (b.k ≡ k)) blocks
+
+-- a row that may split, and separates a needed pair
+pub record IsRowApart (pair : Pair) (k : ℕ) (classes : Classes) (m : ℕ) (bits : List Bool) : Type 0 where
+  pub size : length bits ≡ places_of pair
+  pub may : MaySplit pair k bits
+  pub apart : Separates bits (needed classes m)

@@ -1,0 +1,112 @@
+//! What a model of the solver leads to: 64 paths with its bits, run on.
+ghost use Rattle.std.specs.Prelude.{◌≡◌, ◌<◌, ◌≤◌, ◌+◌, ◌*◌, OnOk, length};
+ghost use Rattle.circ_model.specs.Meaning.{latches_of, places_of};
+ghost use Rattle.class_partition.specs.Classes.{KeepsGreatest};
+
+use crate::rows::SplitRows;
+use crate::words::{drawn_among, lay};
+use class_partition::Classes;
+use pair_sweep::FreeBit;
+use step_lanes::{LaneRows, StepLanes};
+use std::alloc::{AllocError, Global};
+
+// So many frames are simulated after that of a model.
+const MORE: u32 = 8;
+
+// Goes through so many frames.
+fn step_frames(lanes: &mut StepLanes<'_, '_>, inputs: &[u64], frames: u32)
+    requires inputs { length inputs.now ≡ frames * length lanes.old.pair.left.inputs }
+    requires few { frames ≤ 17 }
+    requires begin { lanes.old.frames ≡ 0 }
+    ensures pair { lanes.new.pair ≡ lanes.old.pair }
+    ensures k { lanes.new.k ≡ lanes.old.k }
+    ensures classes { lanes.new.classes ≡ lanes.old.classes }
+    ensures frames { lanes.new.frames ≡ frames }
+{
+    let each = lanes.product().inputs() as usize;
+    for t in 0..frames {
+        let begin = t as usize * each;
+        lanes.step(&inputs[begin..begin + each]);
+    }
+}
+
+impl<'p> SplitRows<'p> {
+    // Takes in the rows at which paths stand.
+    fn take_step(&mut self, alloc: Global, lanes: &StepLanes<'_, 'p>) -> Result<(), AllocError>
+        requires pair { lanes.now.pair ≡ self.old.pair }
+        requires k { lanes.now.k ≡ self.old.k }
+        requires frame { lanes.now.k < lanes.now.frames }
+        requires keeps { KeepsGreatest lanes.now.pair lanes.now.k lanes.now.classes }
+        ensures { self.new ≡ self.old }
+    {
+        if let Some(block) = LaneRows::of_step(alloc, lanes)? {
+            self.take(alloc, block)?;
+        }
+        Ok(())
+    }
+
+    // Draws the words of a start and of the inputs of so many frames.
+    fn draw(&mut self, start: &mut [u64], inputs: &mut [u64])
+        ensures kept { self.new ≡ self.old }
+        ensures start { length start.new ≡ length start.old }
+        ensures inputs { length inputs.new ≡ length inputs.old }
+    {
+        let SplitRows {
+            stimulus, reached, ..
+        } = self;
+        stimulus.fill(start);
+        stimulus.fill(inputs);
+        drawn_among(reached.as_slice(), start);
+    }
+
+    /// Simulates 64 paths with these free bits, which a model of the solver has for the step of classes that separate no pair of
+    /// the greatest correspondence, and takes in the rows of those on which the classes hold in the first k frames: of frame k, and
+    /// of some later ones.
+    pub fn run_on(
+        &mut self,
+        alloc: Global,
+        classes: &Classes,
+        bits: &[FreeBit],
+    ) -> Result<(), AllocError>
+        requires places { length classes.now.least ≡ places_of self.old.pair }
+        requires few { self.old.k ≤ 16 }
+        requires keeps { KeepsGreatest self.old.pair self.old.k classes.now }
+        ensures { self.new ≡ self.old }
+    {
+        let product = self.product;
+        let each = product.inputs() as usize;
+        let mut start = vec![in alloc; 0u64; product.latches() as usize]?;
+        let mut inputs = vec![in alloc; 0u64; (self.k as usize + 1) * each]?;
+        self.draw(start.as_mut_slice(), inputs.as_mut_slice());
+        lay(bits, start.as_mut_slice(), inputs.as_mut_slice(), each);
+        let mut lanes = StepLanes::new(alloc, product, self.k, classes, start.as_slice())?;
+        step_frames(&mut lanes, inputs.as_slice(), self.k + 1);
+        self.take_step(alloc, &lanes)?;
+        self.go_on(alloc, &mut lanes, &mut inputs[..each])
+    }
+
+    // Simulates some frames more, with inputs that are drawn.
+    fn go_on(
+        &mut self,
+        alloc: Global,
+        lanes: &mut StepLanes<'_, 'p>,
+        inputs: &mut [u64],
+    ) -> Result<(), AllocError>
+        requires pair { lanes.old.pair ≡ self.old.pair }
+        requires k { lanes.old.k ≡ self.old.k }
+        requires frame { (lanes.old.k < lanes.old.frames) × (lanes.old.frames ≤ 17) }
+        requires keeps { KeepsGreatest lanes.old.pair lanes.old.k lanes.old.classes }
+        requires inputs { length inputs.old ≡ length self.old.pair.left.inputs }
+        ensures { self.new ≡ self.old }
+    {
+        if lanes.lanes() == 0 {
+            return Ok(());
+        }
+        for _ in 0..MORE {
+            self.stimulus.fill(inputs);
+            lanes.step(inputs);
+            self.take_step(alloc, lanes)?;
+        }
+        Ok(())
+    }
+}
