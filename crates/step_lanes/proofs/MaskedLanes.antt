@@ -1,5 +1,5 @@
 -- Lanes of masks.
-use Rattle.std.proofs.Common.{◌≡◌, ◌∙◌, ◌<◌, ◌^◌, ℕ, List, Bool, true, false, not, refl, ap, sym, get_or}
+use Rattle.std.proofs.Common.{◌≡◌, ◌∙◌, ◌<◌, ◌^◌, ℕ, List, Bool, true, false, not, refl, ap, ap₂, sym, get_or}
 use Rattle.std.specs.Prelude.{IsTrue, ◌&&◌, bit_and, bit_xor}
 use Rattle.std.specs.Int.{bit_not, w64}
 use Rattle.std.proofs.lemmas.Bool.{and_parts}
@@ -7,7 +7,7 @@ use Rattle.std.proofs.lemmas.Nat.{xor_lt}
 use Rattle.circ_model.specs.Meaning.{bit, signed}
 use Rattle.circ_model.proofs.Literals.{value_of_literal}
 use Rattle.class_partition.specs.Classes.{Classes, least_of, needed, phase_of, relative}
-use Rattle.class_partition.proofs.Signs.{apart_from_together}
+use Rattle.class_partition.proofs.Signs.{apart_from_together, signed-self}
 use Rattle.sim_words.specs.Lanes.{lane, lane_bit}
 use Rattle.sim_words.proofs.Lanes.{lane_at, lane_and, lane_not, lane_xor}
 use Rattle.step_lanes.specs.Rows.{Separates}
@@ -36,6 +36,13 @@ equal_lane b x y mask lt small_x small_y h =
           (sym (lane_xor b x y) ∙ not_true (lane_bit b (bit_xor x y)) (sym (lane_not b (bit_xor x y) (xor_lt 64 x y small_x small_y) lt) ∙ parts.0)),
       parts.1,
     )
+
+pub equal_lanes_kept : (b x y mask : ℕ) → b < 64 → x < 2 ^ 64 → y < 2 ^ 64 → IsTrue (lane_bit b mask) → lane_bit b x ≡ lane_bit b y → IsTrue (lane_bit b (bit_and (bit_not w64 (bit_xor x y)) mask))
+equal_lanes_kept b x y mask lt small_x small_y on same =
+    lane_and b (bit_not w64 (bit_xor x y)) mask
+    ∙ ap₂ (λ (p q : Bool). p && q)
+    (lane_not b (bit_xor x y) (xor_lt 64 x y small_x small_y) lt ∙ ap not (lane_xor b x y ∙ ap (signed (lane_bit b y)) same ∙ signed-self (lane_bit b y)))
+    on
 
 -- a place's word, complemented
 pub complemented_lane : (b : ℕ) (words : List ℕ) (p : ℕ) → b < 64 → get_or words p 0 < 2 ^ 64 → lane_bit b (bit_not w64 (get_or words p 0)) ≡ not (bit (lane b words) p)

@@ -1,5 +1,5 @@
 -- Lanes as paths, one frame after another.
-use Rattle.std.proofs.Common.{◌≡◌, ◌∙◌, ◌<◌, ◌≤◌, ◌+◌, ℕ, zero, suc, List, [], ◌∷◌, Bool, length, refl, ap, ap₂, sym, subst, arith, length-append, ⊎_elim}
+use Rattle.std.proofs.Common.{◌≡◌, ◌∙◌, ◌<◌, ◌≤◌, ◌+◌, ◌-◌, ℕ, zero, suc, List, [], ◌∷◌, Bool, length, refl, ap, ap₂, sym, subst, arith, length-append, ⊎_elim}
 use Rattle.std.specs.Prelude.{IsTrue}
 use Rattle.std.proofs.lemmas.Bool.{cases_lt}
 use Rattle.std.proofs.lemmas.List.{get_or_append_left, get_or_push}
@@ -14,8 +14,8 @@ use Rattle.step_lanes.specs.Paths.{IsPathLane}
 use Rattle.step_lanes.proofs.GoingOn.{later_rows_may_split}
 
 -- before the first frame
-pub lane_begins : (pair : Pair) (k : ℕ) (classes : Classes) (kept : Bool) (bits state : List Bool) → length state ≡ latches_of pair → IsPathLane pair k classes 0 kept bits state
-lane_begins pair k classes kept bits state size =
+pub lane_begins : (pair : Pair) (k : ℕ) (classes : Classes) (kept : Bool) (bits state : List Bool) → length state ≡ latches_of pair → IsTrue kept → IsPathLane pair k classes 0 kept bits state
+lane_begins pair k classes kept bits state size on =
     let path : Path = record { start = state; inputs = [] } in
     record {
       path = path;
@@ -23,13 +23,15 @@ lane_begins pair k classes kept bits state size =
       rows = refl;
       next = sym (state_start pair path);
       row = λ t e. absurd (omega arith);
-      hold = λ on t lt less. absurd (omega arith);
+      hold = λ _ t lt less. absurd (omega arith);
+      all = λ held. on;
     }
 
 -- one frame more
 pub lane_goes_on : (pair : Pair) (k : ℕ) (classes : Classes) (frames : ℕ) (kept still : Bool) (bits state inputs after next : List Bool) → IsPathLane pair k classes frames kept bits state → IsInputRow pair inputs → after ≡ row pair state inputs → next ≡ next_state pair state inputs
-    → (IsTrue still → IsTrue kept) → (IsTrue still → 0 < frames → frames ≤ k → HoldIn (places_of pair) classes bits) → IsPathLane pair k classes (frames + 1) still after next
-lane_goes_on pair k classes frames kept still bits state inputs after next is given words states keeps holds =
+    → (IsTrue still → IsTrue kept) → (IsTrue still → 0 < frames → frames ≤ k → HoldIn (places_of pair) classes bits)
+    → (IsTrue kept → (0 < frames → frames ≤ k → HoldIn (places_of pair) classes bits) → IsTrue still) → IsPathLane pair k classes (frames + 1) still after next
+lane_goes_on pair k classes frames kept still bits state inputs after next is given words states keeps holds alls =
     let path : Path = extended is.path (inputs ∷ []) in
     let rows = is.rows in
     let input : inputs_at path frames ≡ inputs = get_or_push is.path.inputs inputs [] frames (omega arith) in
@@ -45,6 +47,10 @@ lane_goes_on pair k classes frames kept still bits state inputs after next is gi
           (⊎_elim (λ (earlier : suc t < frames). is.hold (keeps on) t lt earlier)
           (λ (last : frames ≤ suc t). let e : frames ≡ suc t = omega arith in subst (HoldIn (places_of pair) classes) (is.row t e) (holds on (omega arith) (omega arith)))
           (cases_lt (suc t) frames));
+      all = λ held.
+          let earlier = λ (t : ℕ) (lt : t < k) (less : t < frames). subst (HoldIn (places_of pair) classes) (row_of_extended pair is.path (inputs ∷ []) t (omega arith)) (held t lt (omega arith)) in
+          alls (is.all (λ t lt less. earlier t lt (omega arith)))
+          (λ some few. let e : frames ≡ suc (frames - 1) = omega arith in subst (HoldIn (places_of pair) classes) (sym (is.row (frames - 1) e)) (earlier (frames - 1) (omega arith) (omega arith)));
     }
 
 -- after more than k frames the row of a lane that is kept may split

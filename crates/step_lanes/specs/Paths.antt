@@ -15,8 +15,8 @@ pub record LaneFrames : Type 0 where
   pub words : List ℕ
   pub state : List ℕ
 
--- a lane is a path: the row of its last frame and the state after it; where it is kept, the classes held in each frame before that is
--- one of the first k
+-- a lane is a path: the row of its last frame and the state after it; it is kept exactly where the classes held in each frame before that
+-- is one of the first k
 pub record IsPathLane (pair : Pair) (k : ℕ) (classes : Classes) (frames : ℕ) (kept : Bool) (bits state : List Bool) : Type 0 where
   pub path : Path
   pub is_path : IsPath pair path
@@ -24,6 +24,7 @@ pub record IsPathLane (pair : Pair) (k : ℕ) (classes : Classes) (frames : ℕ)
   pub next : state ≡ state_at pair path frames
   pub row : (t : ℕ) → frames ≡ suc t → bits ≡ row_at pair path t
   pub hold : IsTrue kept → (t : ℕ) → t < k → suc t < frames → HoldIn (places_of pair) classes (row_at pair path t)
+  pub all : ((t : ℕ) → t < k → suc t < frames → HoldIn (places_of pair) classes (row_at pair path t)) → IsTrue kept
 
 pub record AreLanes (s : LaneFrames) : Type 0 where
   pub pair : IsSoundPair s.pair

@@ -20,6 +20,7 @@ pub(crate) fn phased_word(classes: &Classes, words: &[u64], place: u32) -> u64
 fn equal_lanes(x: u64, y: u64, mask: u64) -> u64
     ensures kept { (b : ℕ) → b < 64 → IsTrue (lane_bit b result) → IsTrue (lane_bit b mask) }
     ensures equal { (b : ℕ) → b < 64 → IsTrue (lane_bit b result) → lane_bit b x ≡ lane_bit b y }
+    ensures all { (b : ℕ) → b < 64 → IsTrue (lane_bit b mask) → lane_bit b x ≡ lane_bit b y → IsTrue (lane_bit b result) }
 {
     !(x ^ y) & mask
 }
@@ -36,6 +37,7 @@ fn holding(classes: &Classes, words: &[u64], mask: u64) -> u64
     requires { length words.now ≡ length classes.now.least }
     ensures kept { (b : ℕ) → b < 64 → IsTrue (lane_bit b result) → IsTrue (lane_bit b mask) }
     ensures hold { (b : ℕ) → b < 64 → IsTrue (lane_bit b result) → HoldIn (length words.now) classes.now (lane b words.now) }
+    ensures all { (b : ℕ) → b < 64 → IsTrue (lane_bit b mask) → HoldIn (length words.now) classes.now (lane b words.now) → IsTrue (lane_bit b result) }
 {
     let mut lanes = mask;
     for p in 0..classes.len() {
@@ -51,6 +53,7 @@ pub(crate) fn kept_lanes(classes: &Classes, words: &[u64], mask: u64, frames: u3
     requires { length words.now ≡ length classes.now.least }
     ensures kept { (b : ℕ) → b < 64 → IsTrue (lane_bit b result) → IsTrue (lane_bit b mask) }
     ensures hold { (b : ℕ) → b < 64 → IsTrue (lane_bit b result) → 0 < frames → frames ≤ k → HoldIn (length words.now) classes.now (lane b words.now) }
+    ensures all { (b : ℕ) → b < 64 → IsTrue (lane_bit b mask) → (0 < frames → frames ≤ k → HoldIn (length words.now) classes.now (lane b words.now)) → IsTrue (lane_bit b result) }
 {
     if 0 < frames && frames <= k {
         holding(classes, words, mask)

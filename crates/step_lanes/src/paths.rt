@@ -100,6 +100,7 @@ impl<'c, 'p> StepLanes<'c, 'p> {
     pub fn lanes(&self) -> u64
         requires { self.now.k < self.now.frames }
         ensures mask { result ≡ self.now.mask }
+        ensures lanes { AreLanes self.now }
         ensures split { KeepsGreatest self.now.pair self.now.k self.now.classes → (b : ℕ) → b < 64 → IsTrue (lane_bit b result) → MaySplit self.now.pair self.now.k (lane b self.now.words) }
     {
         self.mask
@@ -109,7 +110,6 @@ impl<'c, 'p> StepLanes<'c, 'p> {
     pub fn words(&self) -> &[u64]
         ensures words { result.now ≡ self.entry.now.words }
         ensures size { length result.now ≡ places_of self.entry.now.pair }
-        ensures lanes { AreLanes self.entry.now }
     {
         self.words.as_slice()
     }

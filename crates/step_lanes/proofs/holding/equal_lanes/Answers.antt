@@ -1,4 +1,4 @@
-use Rattle.step_lanes.proofs.MaskedLanes.{equal_lane}
+use Rattle.step_lanes.proofs.MaskedLanes.{equal_lane, equal_lanes_kept}
 use Rattle.step_lanes.proofs.holding.equal_lanes.Goals as goal
 
 pub returns-clause-kept : goal.returns-clause-kept
@@ -6,3 +6,6 @@ returns-clause-kept c b lt h = (equal_lane b c.args.x c.args.y c.args.mask lt c.
 
 pub returns-clause-equal : goal.returns-clause-equal
 returns-clause-equal c b lt h = (equal_lane b c.args.x c.args.y c.args.mask lt c.ranges.x.fits c.ranges.y.fits h).0
+
+pub returns-clause-all : goal.returns-clause-all
+returns-clause-all c b lt on same = equal_lanes_kept b c.args.x c.args.y c.args.mask lt c.ranges.x.fits c.ranges.y.fits on same

@@ -8,4 +8,5 @@ abbrev pub invariant-loop-p : goal.invariant-loop-p
 invariant-loop-p l = record {
   kept : (b : ℕ) → b < 64 → IsTrue (lane_bit b l.lanes) → IsTrue (lane_bit b l.mask);
   hold : (b : ℕ) → b < 64 → IsTrue (lane_bit b l.lanes) → (q : ℕ) → q < l.p → relative l.classes (lane b l.words) (least_of l.classes q) ≡ relative l.classes (lane b l.words) q;
+  all : (b : ℕ) → b < 64 → IsTrue (lane_bit b l.mask) → ((q : ℕ) → q < l.p → relative l.classes (lane b l.words) (least_of l.classes q) ≡ relative l.classes (lane b l.words) q) → IsTrue (lane_bit b l.lanes);
 }

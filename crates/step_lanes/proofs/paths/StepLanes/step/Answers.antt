@@ -33,5 +33,8 @@ invariant_of-self c =
           (was.lanes b lt) (given b) (ap (lane b) words ∙ here) (ap (lane b) state ∙ there)
           (c.kept_lanes.ensures.kept b lt)
           (λ still some few. subst (λ (n : ℕ). HoldIn n s.partition.now (lane b s.words.items)) was.places
-          (subst (λ (ws : List ℕ). HoldIn (length ws) s.partition.now (lane b ws)) c.as_slice.ensures.value (c.kept_lanes.ensures.hold b lt still some few)));
+          (subst (λ (ws : List ℕ). HoldIn (length ws) s.partition.now (lane b ws)) c.as_slice.ensures.value (c.kept_lanes.ensures.hold b lt still some few)))
+          (λ on held. c.kept_lanes.ensures.all b lt on
+          (λ some few. subst (λ (ws : List ℕ). HoldIn (length ws) s.partition.now (lane b ws)) (sym c.as_slice.ensures.value)
+          (subst (λ (n : ℕ). HoldIn n s.partition.now (lane b s.words.items)) (sym was.places) (held some few))));
     }
