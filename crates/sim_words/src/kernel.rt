@@ -85,8 +85,10 @@ fn fill(product: &Product, words: &mut [u64])
     }
 }
 
-// Writes the words of a frame.
-pub(crate) fn frame_words(product: &Product, state: &[u64], inputs: &[u64], words: &mut [u64])
+/// Writes the words of all places in a frame with this state and these inputs: a word for each latch, the left's first, and
+/// one for each input. Each lane of the words is the row of that lane's state and inputs, whatever state it is. It takes time
+/// linear in the number of places, and no memory.
+pub fn frame_words(product: &Product, state: &[u64], inputs: &[u64], words: &mut [u64])
     requires state { length state.now ≡ latches_of product.now }
     requires inputs { length inputs.now ≡ length product.now.left.inputs }
     requires size { length words.old ≡ places_of product.now }
@@ -97,8 +99,9 @@ pub(crate) fn frame_words(product: &Product, state: &[u64], inputs: &[u64], word
     fill(product, words);
 }
 
-// Writes the words of the next state: each latch gets its next literal's word.
-pub(crate) fn next_words(product: &Product, words: &[u64], state: &mut [u64])
+/// Writes the state after a frame, where the words are those of all places in it: each latch gets its next literal's word. It
+/// takes time linear in the number of latches, and no memory.
+pub fn next_words(product: &Product, words: &[u64], state: &mut [u64])
     requires words { length words.now ≡ places_of product.now }
     requires state { length state.old ≡ latches_of product.now }
     ensures size { length state.new ≡ latches_of product.now }

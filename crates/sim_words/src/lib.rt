@@ -9,5 +9,6 @@ mod sim;
 mod start;
 mod stimulus;
 
+pub use kernel::{frame_words, next_words};
 pub use sim::SimState;
 pub use stimulus::Stimulus;

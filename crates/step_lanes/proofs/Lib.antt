@@ -1,0 +1,4 @@
+pub mod MaskedLanes
+pub mod GoingOn
+pub mod PathLanes
+pub mod Apart

@@ -1,0 +1,156 @@
+//! Rows that may split, 64 at once, kept beyond the classes that they were found under: a pair of any later version is tried on
+//! them in a few operations on words before anything is asked.
+ghost use Rattle.std.specs.Prelude.{◌≡◌, ◌<◌, ◌-◌, ◌^◌, ◌==◌, ℕ, Some, None, IsTrue, IfOk, length, if◌then◌else◌};
+ghost use Rattle.circ_model.specs.Meaning.{places_of};
+ghost use Rattle.circ_model.specs.Correspondence.{MaySplit};
+ghost use Rattle.class_partition.specs.Classes.{KeepsGreatest, least_of};
+ghost use Rattle.sim_words.specs.Lanes.{lane, lane_bit};
+ghost use Rattle.sim_words.specs.Simulation.{HasFrame};
+ghost use Rattle.step_lanes.specs.Rows.{IsFirstApart, IsFirstLane};
+
+use crate::holding::{apart_lanes, phased_word};
+use crate::paths::StepLanes;
+use bit_rows::BitRow;
+use class_partition::{Classes, Needed};
+use product_machine::Product;
+use sim_words::SimState;
+use std::alloc::{AllocError, Global};
+use std::marker::Model;
+
+/// 64 rows of a pair's places, one in each lane, and a mask: the rows in its lanes may split.
+#[derive(Drop)]
+pub struct LaneRows<'p> {
+    product: &'p Product,
+    depth: u32,
+    mask: u64,
+    words: Vec<u64>,
+}
+
+impl<'p> Model for LaneRows<'p> {
+    ghost use Rattle.step_lanes.specs.Rows.{AreLaneRows, MaskedRows};
+
+    ghost Value = { MaskedRows };
+
+    ghost view = { λ r. record { pair = r.product.now; k = r.depth; mask = r.mask; words = r.words.items } };
+
+    ghost invariant = { λ r. AreLaneRows (record { pair = r.product.now; k = r.depth; mask = r.mask; words = r.words.items }) };
+}
+
+impl<'p> LaneRows<'p> {
+    /// The rows of the frame at which paths stand, frame k or a later one, in the lanes on which the classes held in the first
+    /// k; none if there is no such lane.
+    pub fn of_step(
+        alloc: Global,
+        paths: &StepLanes<'_, 'p>,
+    ) -> Result<Option<LaneRows<'p>>, AllocError>
+        requires frame { paths.now.k < paths.now.frames }
+        requires keeps { KeepsGreatest paths.now.pair paths.now.k paths.now.classes }
+        ensures rows { IfOk result (λ found. found ≡ (if paths.now.mask == 0 then None else Some (record { pair = paths.now.pair; k = paths.now.k; mask = paths.now.mask; words = paths.now.words }))) }
+    {
+        let mask = paths.lanes();
+        if mask == 0 {
+            return Ok(None);
+        }
+        let words = Vec::from_slice(alloc, paths.words())?;
+        Ok(Some(LaneRows {
+            product: paths.product(),
+            depth: paths.k(),
+            mask,
+            words,
+        }))
+    }
+
+    /// The rows of a simulation that has a frame, in all lanes: each is that frame of a run.
+    pub fn of_runs(
+        alloc: Global,
+        product: &'p Product,
+        k: u32,
+        sim: &SimState<'_>,
+    ) -> Result<LaneRows<'p>, AllocError>
+        requires pair { sim.now.pair ≡ product.now }
+        requires frame { HasFrame sim.now.frame }
+        ensures rows { IfOk result (λ r. r ≡ record { pair = product.entry.now; k = k; mask = 2 ^ 64 - 1; words = sim.now.words }) }
+    {
+        let _frame = sim.frame();
+        let words = Vec::from_slice(alloc, sim.words())?;
+        Ok(LaneRows {
+            product,
+            depth: k,
+            mask: !0,
+            words,
+        })
+    }
+
+    /// The lowest lane of the mask whose row separates a needed pair, or none if the pair holds in all of them. It takes a few
+    /// operations on words.
+    pub fn apart(&self, classes: &Classes, pair: Needed) -> Option<u32>
+        requires places { length classes.now.least ≡ places_of self.now.pair }
+        requires member { pair.member < places_of self.now.pair }
+        requires rep { pair.rep ≡ least_of classes.now pair.member }
+        ensures { IsFirstApart self.now classes.now pair.member result }
+    {
+        let _places = classes.len();
+        let words = self.words.as_slice();
+        let least = phased_word(classes, words, pair.rep);
+        let member = phased_word(classes, words, pair.member);
+        first_lane(apart_lanes(least, member, self.mask))
+    }
+
+    /// The row of a lane of the mask. It takes time linear in the number of places.
+    pub fn row(&self, alloc: Global, index: u32) -> Result<BitRow, AllocError>
+        requires lane { index < 64 }
+        requires mask { IsTrue (lane_bit index self.now.mask) }
+        ensures row { IfOk result (λ r. r ≡ lane index self.now.words) }
+        ensures size { IfOk result (λ r. length r ≡ places_of self.now.pair) }
+        ensures may { IfOk result (λ r. MaySplit self.now.pair self.now.k r) }
+    {
+        let mut row = BitRow::with_len(alloc, self.product.len())?;
+        write_lane(self.words.as_slice(), index, &mut row);
+        Ok(row)
+    }
+
+    /// The pair of netlists.
+    pub fn product(&self) -> &'p Product
+        ensures pair { result.now ≡ self.now.pair }
+    {
+        self.product
+    }
+
+    /// Over how many frames the rows were found.
+    pub fn k(&self) -> u32
+        ensures { result ≡ self.now.k }
+    {
+        self.depth
+    }
+
+    /// The lanes whose rows may split.
+    pub fn mask(&self) -> u64
+        ensures mask { result ≡ self.now.mask }
+        ensures may { (b : ℕ) → b < 64 → IsTrue (lane_bit b result) → MaySplit self.now.pair self.now.k (lane b self.now.words) }
+    {
+        self.mask
+    }
+}
+
+// The lowest of these lanes, or none.
+fn first_lane(lanes: u64) -> Option<u32>
+    ensures { IsFirstLane lanes result }
+{
+    if lanes == 0 {
+        None
+    } else {
+        Some(lanes.trailing_zeros())
+    }
+}
+
+// Writes a lane of words.
+fn write_lane(words: &[u64], index: u32, row: &mut BitRow)
+    requires lane { index < 64 }
+    requires size { length row.old ≡ length words.now }
+    ensures { row.new ≡ lane index words.now }
+{
+    for p in 0..row.len() {
+        let bit = (words[p as usize] >> index) & 1 == 1;
+        row.set(p, bit);
+    }
+}
