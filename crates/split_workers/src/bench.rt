@@ -4,7 +4,7 @@ ghost use Rattle.std.specs.Prelude.{◌≡◌, IfOk};
 ghost use Rattle.circ_model.specs.Meaning.{places_of};
 ghost use Rattle.class_partition.specs.Classes.{IsNeeded, least_of};
 ghost use Rattle.boxcar.specs.Table.{Shows};
-ghost use Rattle.verdict_stamp.specs.Proofs.{IsProof};
+ghost use Rattle.verdict_stamp.specs.Proofs.{IsSettled};
 
 use class_partition::Needed;
 use std::alloc::{AllocError, Global};
@@ -51,6 +51,7 @@ impl<'v, 'p> Bench<'v, 'p> {
     /// was proved here.
     pub(crate) fn turned_to(
         self,
+        alloc: Global,
         versions: &'v Versions<'p>,
         stamp: &Stamp<'p>,
     ) -> Result<Bench<'v, 'p>, AllocError>
@@ -65,7 +66,7 @@ impl<'v, 'p> Bench<'v, 'p> {
             return Ok(self);
         }
         let Bench { prover, .. } = self;
-        let prover = Prover::over(prover.into_memory(), versions.at(stamp))?;
+        let prover = Prover::over(alloc, prover.into_memory(), versions.at(stamp))?;
         Ok(Bench {
             stamp: stamp.copy(),
             prover,
@@ -86,13 +87,13 @@ impl<'v, 'p> Bench<'v, 'p> {
         self.prover.version()
     }
 
-    /// Proves a pair of its version.
-    pub(crate) fn prove(&mut self, alloc: Global, pair: Needed) -> Result<Proof<'v, 'p>, AllocError>
+    /// Settles a pair of its version.
+    pub(crate) fn settle(&mut self, alloc: Global, pair: Needed) -> Result<Proof<'v, 'p>, AllocError>
         requires needed { IsNeeded (places_of self.old.value.pair) self.old.value.classes pair.member }
         requires rep { pair.rep ≡ least_of self.old.value.classes pair.member }
         ensures kept { self.new ≡ self.old }
-        ensures proof { IfOk result (IsProof self.old.value pair.member) }
+        ensures settled { IfOk result (IsSettled self.old.value pair.member) }
     {
-        self.prover.prove(alloc, pair)
+        self.prover.settle(alloc, pair)
     }
 }

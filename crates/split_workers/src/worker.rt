@@ -10,14 +10,14 @@ ghost use Rattle.split_workers.specs.Desks.{IsAskedOf, IsOutcome};
 
 use crate::bench::Bench;
 use crate::desk::{Asked, Desk};
-use crate::found::{Found, held_apart};
+use crate::found::Found;
 use crate::seat::Seat;
 use refine_board::{Journal, Offer, Run};
 use sec_base::Gate;
 use std::alloc::{AllocError, Global};
 use std::sync::ledger::Ledger;
 use std::sync::{Condvar, Mutex, Wait};
-use verdict_stamp::{Proof, Stamp, Vector, Verdict, Version, Versions};
+use verdict_stamp::{Proof, Stamp, Verdict, Version, Versions};
 
 /// What the workers share: the locked desk, the bell that wakes those who wait for work, and the published versions, which
 /// are read without the lock.
@@ -228,7 +228,7 @@ impl<'v, 'p, L: Run, E: Ledger, O: Ledger> Room<'v, 'p, L, E, O> {
             self.give_back(rt, gate, next_call(call), seat, offer);
             return Turn::Stopped;
         }
-        match bench.prove(alloc, offer.pair()) {
+        match bench.settle(alloc, offer.pair()) {
             Ok(Proof::Holds(verdict)) => self.keep(
                 rt,
                 gate,
@@ -247,70 +247,6 @@ impl<'v, 'p, L: Run, E: Ledger, O: Ledger> Room<'v, 'p, L, E, O> {
         Turn::On
     }
 
-    // Puts an offer into the pocket with a vector.
-    fn hold<G: Gate>(
-        &self,
-        rt: &impl Wait,
-        gate: &G,
-        party: u32,
-        call: &mut u64,
-        seat: &mut Seat<E, O>,
-        pocket: &mut Vec<Found<'p, L>>,
-        offer: Offer<'p, L>,
-        vector: Vector<'p>,
-    ) -> Turn
-        requires party { (offer.party ≡ party) × (party < L.workers) }
-        requires seat { (seat.old.party ≡ party) × (seat.old.ended ≡ 0) × (seat.old.owed ≡ length pocket.old.items + 1) }
-        requires held { AreHeld party pocket.old.items }
-        requires own { IsOf L.pair L.k vector }
-        ensures going { result ≢ Turn.Ended }
-        ensures seat { (seat.new.party ≡ party) × (seat.new.ended ≡ 0) × (seat.new.owed ≡ length pocket.new.items) }
-        ensures held { AreHeld party pocket.new.items }
-    {
-        if pocket.reserve(1).is_err() {
-            self.give_back(rt, gate, next_call(call), seat, offer);
-            return Turn::Stopped;
-        }
-        pocket.push_reserved(Found { offer, vector });
-        Turn::On
-    }
-
-    // Answers an offered pair: by a vector that is held already, where one separates it, and else by a proof.
-    fn answer<G: Gate>(
-        &self,
-        rt: &impl Wait,
-        alloc: Global,
-        gate: &G,
-        party: u32,
-        call: &mut u64,
-        bench: &mut Bench<'v, 'p>,
-        seat: &mut Seat<E, O>,
-        pocket: &mut Vec<Found<'p, L>>,
-        offer: Offer<'p, L>,
-    ) -> Turn
-        requires party { (offer.party ≡ party) × (party < L.workers) }
-        requires seat { (seat.old.party ≡ party) × (seat.old.ended ≡ 0) × (seat.old.owed ≡ length pocket.old.items + 1) }
-        requires held { AreHeld party pocket.old.items }
-        requires listed { Shows L.list bench.old }
-        requires asked { IsAsked bench.old.value offer.pair }
-        requires product { bench.old.value.pair ≡ L.pair }
-        requires k { bench.old.value.k ≡ L.k }
-        ensures bench { bench.new ≡ bench.old }
-        ensures going { result ≢ Turn.Ended }
-        ensures seat { (seat.new.party ≡ party) × (seat.new.ended ≡ 0) × (seat.new.owed ≡ length pocket.new.items) }
-        ensures held { AreHeld party pocket.new.items }
-    {
-        let classes = bench.version().classes();
-        match held_apart(alloc, pocket.as_slice(), classes, offer.pair()) {
-            Ok(Some(vector)) => self.hold(rt, gate, party, call, seat, pocket, offer, vector),
-            Ok(None) => self.prove_at(rt, alloc, gate, party, call, bench, seat, pocket, offer),
-            Err(_) => {
-                self.give_back(rt, gate, next_call(call), seat, offer);
-                Turn::Stopped
-            }
-        }
-    }
-
     // The bench of a version: the one that the worker has, turned to it, or a new one.
     fn bench_for(
         &self,
@@ -324,7 +260,7 @@ impl<'v, 'p, L: Run, E: Ledger, O: Ledger> Room<'v, 'p, L, E, O> {
         ensures version { IfOk result (λ b. b.value ≡ stamp.now.value) }
     {
         match old {
-            Some(bench) => bench.turned_to(self.versions, stamp),
+            Some(bench) => bench.turned_to(alloc, self.versions, stamp),
             None => Bench::new(alloc, self.versions, stamp),
         }
     }
@@ -354,7 +290,7 @@ impl<'v, 'p, L: Run, E: Ledger, O: Ledger> Room<'v, 'p, L, E, O> {
         gate.works(party, last_call(*call));
         match self.bench_for(alloc, bench.take(), offer.stamp()) {
             Ok(mut at) => {
-                let turn = self.answer(rt, alloc, gate, party, call, &mut at, seat, pocket, offer);
+                let turn = self.prove_at(rt, alloc, gate, party, call, &mut at, seat, pocket, offer);
                 *bench = Some(at);
                 turn
             }

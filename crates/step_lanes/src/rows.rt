@@ -123,6 +123,14 @@ impl<'p> LaneRows<'p> {
         self.depth
     }
 
+    /// A word for each place.
+    pub fn words(&self) -> &[u64]
+        ensures words { result.now ≡ self.entry.now.words }
+        ensures size { length result.now ≡ places_of self.entry.now.pair }
+    {
+        self.words.as_slice()
+    }
+
     /// The lanes whose rows may split.
     pub fn mask(&self) -> u64
         ensures mask { result ≡ self.now.mask }
