@@ -15,10 +15,10 @@ use Rattle.command_line.proofs.Ends.{IsFit, IsRight, leaf_right, top_right, give
 use Rattle.command_line.proofs.Spelling.{text_there, number_there}
 
 -- the subcommand at a place, as built, and an argument of it
-abbrev sub : ℕ → Shape
+abbrev pub sub : ℕ → Shape
 sub i = slice_index_or (built sec_app).subs i help_shape
 
-abbrev rule : ℕ → ℕ → Rule
+abbrev pub rule : ℕ → ℕ → Rule
 rule i k = slice_index_or (sub i).rules k help_rule
 
 is_there : (id : Text) (rows : List Row) → not (is_given id rows) ≡ false → is_given id rows ≡ true
