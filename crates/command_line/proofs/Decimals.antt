@@ -6,7 +6,8 @@ use Rattle.std.specs.Str.Parse.{digits_value, without_leading_plus}
 use Rattle.clap.specs.ValueTests.{is_unsigned_in}
 use Rattle.clap.proofs.WalkLemmas.{both}
 use Rattle.command_line.specs.Meant.{number_in}
-use Rattle.command_line.specs.Plain.{Number, is_decimal, is_digit, is_value}
+use Rattle.command_line.specs.App.{Number}
+use Rattle.command_line.specs.Plain.{is_decimal, is_digit, is_value}
 
 digit_low : (d : ℕ) → is_digit d ≡ true → nat_lt (digit_value d) 10 ≡ true
 digit_low d e =

@@ -9,7 +9,8 @@ use Rattle.clap.specs.Takes.{is_given as is_in}
 use Rattle.clap.specs.Facts.{explicit_source}
 use Rattle.clap.specs.Faults.{check_fault, defaults_fault, given_default_fault, level_fault, settle_fault}
 use Rattle.clap.specs.Walk.{Held, Row, Rule, Text, Walk, finished, has_row, is_empty, nothing_held, rows_after, settled, walk, with_default}
-use Rattle.command_line.specs.Plain.{Argument, Given, Line, Reading, complete, given_by, is_given, read_all}
+use Rattle.command_line.specs.App.{Argument, Line}
+use Rattle.command_line.specs.Plain.{Given, Reading, complete, given_by, is_given, read_all}
 use Rattle.command_line.proofs.Rows.{Each}
 use Rattle.command_line.proofs.Uses.{given_row, given_rows}
 use Rattle.command_line.proofs.Turns.{IsSettled, held, resting}

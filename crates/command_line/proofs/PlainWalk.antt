@@ -5,7 +5,8 @@ use Rattle.clap.specs.Simple.{Shape}
 use Rattle.clap.specs.Faults.{react_fault, settle_fault, turn_fault, walk_fault}
 use Rattle.clap.specs.Walk.{Row, Rule, Text, Walk, arg_by_index, settled_rows, used, walked}
 use Rattle.std.proofs.lemmas.Slice.Eq.{bytes_eq-Decides}
-use Rattle.command_line.specs.Plain.{Argument, Given, Reading, Value, Flag, Name, Number, due_read, is_given, is_value, name_read, option_read, read_all, step, word_read}
+use Rattle.command_line.specs.App.{Argument, Value, Flag, Name, Number}
+use Rattle.command_line.specs.Plain.{Given, Reading, due_read, is_given, is_value, name_read, option_read, read_all, step, word_read, word_of}
 use Rattle.command_line.proofs.Rows.{Each, each_found}
 use Rattle.command_line.proofs.Uses.{IsSetter, IsTaker, flag_fine, flag_used, given_rows}
 use Rattle.command_line.proofs.Turns.{IsSettled, awaited_fine, awaited_next, awaiting, held, positional_fine, positional_next, resting, value_is_plain, value_settles}
@@ -16,15 +17,15 @@ use Rattle.command_line.proofs.Turns.{IsSettled, awaited_fine, awaited_next, awa
 pub record IsValueOption (s : Shape) (o : Argument) : Type 0 where
   pub rule : Rule
   pub taker : IsTaker s.rules o rule
-  pub met : (p : ℕ) (rows : List Row) (pending : Option (Text × List Text)) → walked s.rules [] (resting p (held rows pending)) o.word ≡ awaiting o.id p (held (settled_rows s.rules pending rows) (Some (o.id, [])))
-  pub fine : (p : ℕ) (rows : List Row) (pending : Option (Text × List Text)) → settle_fault s.rules s.args_override_self (held rows pending) ≡ [] → turn_fault s [] (resting p (held rows pending)) o.word ≡ []
+  pub met : (p : ℕ) (rows : List Row) (pending : Option (Text × List Text)) → walked s.rules [] (resting p (held rows pending)) (word_of o) ≡ awaiting o.id p (held (settled_rows s.rules pending rows) (Some (o.id, [])))
+  pub fine : (p : ℕ) (rows : List Row) (pending : Option (Text × List Text)) → settle_fault s.rules s.args_override_self (held rows pending) ≡ [] → turn_fault s [] (resting p (held rows pending)) (word_of o) ≡ []
 
 -- clap meets a flag at its word
 pub record IsFlagOption (s : Shape) (o : Argument) : Type 0 where
   pub rule : Rule
   pub setter : IsSetter s.rules o rule
-  pub met : (p : ℕ) (rows : List Row) (pending : Option (Text × List Text)) → walked s.rules [] (resting p (held rows pending)) o.word ≡ resting p (held (used rule [] (settled_rows s.rules pending rows)) None)
-  pub fine : (p : ℕ) (rows : List Row) (pending : Option (Text × List Text)) → react_fault s.rules s.args_override_self rule [] (held rows pending) ≡ [] → turn_fault s [] (resting p (held rows pending)) o.word ≡ []
+  pub met : (p : ℕ) (rows : List Row) (pending : Option (Text × List Text)) → walked s.rules [] (resting p (held rows pending)) (word_of o) ≡ resting p (held (used rule [] (settled_rows s.rules pending rows)) None)
+  pub fine : (p : ℕ) (rows : List Row) (pending : Option (Text × List Text)) → react_fault s.rules s.args_override_self rule [] (held rows pending) ≡ [] → turn_fault s [] (resting p (held rows pending)) (word_of o) ≡ []
 
 abbrev pub IsOptionBy : Value → Shape → Argument → Type 0
 IsOptionBy Flag s o = IsFlagOption s o
@@ -165,7 +166,7 @@ module _ (s : Shape) (options : List Argument) where
   -- an option that waits for its value
   option_next : (o : Argument) (r next : Reading) (p : ℕ) (rows : List Row) (pending : Option (Text × List Text)) → IsSettled s r.given rows pending → IsValueOption s o
       → ArePositional s p r.names → AreToCome r.names r.given → AreApart r.names → Each (λ o. IsApart o.id r.names) options → IsApart o.id r.names
-      → is_given o.id r.given ≡ false → next ≡ record r { due = Some o } → IsNext s options (resting p (held rows pending)) o.word next
+      → is_given o.id r.given ≡ false → next ≡ record r { due = Some o } → IsNext s options (resting p (held rows pending)) (word_of o) next
   option_next o r next p rows pending settled met names to_come apart others own fresh is =
       let to : Reading = record r { due = Some o } in
       let stands : Stands s options to p (given_rows s.rules r.given) (Some (o.id, [])) = record {
@@ -175,7 +176,7 @@ module _ (s : Shape) (options : List Argument) where
         apart = apart;
         others = others;
       } in
-      let result : IsNext s options (resting p (held rows pending)) o.word to = record {
+      let result : IsNext s options (resting p (held rows pending)) (word_of o) to = record {
         position = p;
         rows = given_rows s.rules r.given;
         pending = Some (o.id, []);
@@ -183,13 +184,13 @@ module _ (s : Shape) (options : List Argument) where
         is = rw (← settled.kept) (met.met p rows pending);
         fine = met.fine p rows pending settled.fine;
       } in
-      subst (λ (x : Reading). IsNext s options (resting p (held rows pending)) o.word x) (sym is) result
+      subst (λ (x : Reading). IsNext s options (resting p (held rows pending)) (word_of o) x) (sym is) result
 
   -- a flag
   flag_next : (o : Argument) (r next : Reading) (p : ℕ) (rows : List Row) (pending : Option (Text × List Text)) → IsSettled s r.given rows pending → IsFlagOption s o
       → ArePositional s p r.names → AreToCome r.names r.given → AreApart r.names → Each (λ o. IsApart o.id r.names) options → IsApart o.id r.names
       → is_given o.id r.given ≡ false → next ≡ record { given = r.given ++ record { id = o.id; text = codes "true" } ∷ []; names = r.names; due = None }
-      → IsNext s options (resting p (held rows pending)) o.word next
+      → IsNext s options (resting p (held rows pending)) (word_of o) next
   flag_next o r next p rows pending settled met names to_come apart others own fresh is =
       let g : Given = record { id = o.id; text = codes "true" } in
       let to : Reading = record { given = r.given ++ g ∷ []; names = r.names; due = None } in
@@ -203,7 +204,7 @@ module _ (s : Shape) (options : List Argument) where
         apart = apart;
         others = others;
       } in
-      let result : IsNext s options (resting p (held rows pending)) o.word to = record {
+      let result : IsNext s options (resting p (held rows pending)) (word_of o) to = record {
         position = p;
         rows = given_rows s.rules (r.given ++ g ∷ []);
         pending = None;
@@ -211,7 +212,7 @@ module _ (s : Shape) (options : List Argument) where
         is = met.met p rows pending ∙ ap (λ (rs : List Row). resting p (held rs None)) (ap (used met.rule []) settled.kept ∙ now);
         fine = met.fine p rows pending react;
       } in
-      subst (λ (x : Reading). IsNext s options (resting p (held rows pending)) o.word x) (sym is) result
+      subst (λ (x : Reading). IsNext s options (resting p (held rows pending)) (word_of o) x) (sym is) result
 
   -- ---- one word more
 
@@ -221,7 +222,7 @@ module _ (s : Shape) (options : List Argument) where
 
   met_next : (v : Value) (o : Argument) (r next : Reading) (p : ℕ) (rows : List Row) (pending : Option (Text × List Text)) → IsOptionBy v s o → IsSettled s r.given rows pending
       → ArePositional s p r.names → AreToCome r.names r.given → AreApart r.names → Each (λ o. IsApart o.id r.names) options → IsApart o.id r.names
-      → is_given o.id r.given ≡ false → option_read v o r ≡ Some next → IsNext s options (resting p (held rows pending)) o.word next
+      → is_given o.id r.given ≡ false → option_read v o r ≡ Some next → IsNext s options (resting p (held rows pending)) (word_of o) next
   met_next Flag o r next p rows pending met settled names to_come apart others own fresh e =
       flag_next o r next p rows pending settled met names to_come apart others own fresh (ap (λ (x : Option Reading). unwrap_or x next) (sym e))
   met_next Name o r next p rows pending met settled names to_come apart others own fresh e =
@@ -241,23 +242,23 @@ module _ (s : Shape) (options : List Argument) where
           name_next n ns r next p rows pending word settled names to_come apart others q.0 q.1
 
       fresh : (o : Argument) → IsSettled s r.given rows pending → IsOption s o → IsApart o.id r.names → (b : Bool) → is_given o.id r.given ≡ b → cond b None (option_read o.value o r) ≡ Some next
-          → IsNext s options (resting p (held rows pending)) o.word next
+          → IsNext s options (resting p (held rows pending)) (word_of o) next
       fresh o settled met own true is h = cc
       fresh o settled met own false is h = met_next o.value o r next p rows pending met settled stands.names stands.to_come stands.apart stands.others own is h
 
-      met : IsSettled s r.given rows pending → (o : Option Argument) → find (λ o. bytes_eq o.word word) options ≡ o → word_read o word r ≡ Some next → IsNext s options (resting p (held rows pending)) word next
+      met : IsSettled s r.given rows pending → (o : Option Argument) → find (λ o. bytes_eq (word_of o) word) options ≡ o → word_read o word r ≡ Some next → IsNext s options (resting p (held rows pending)) word next
       met settled None is h = named r.names settled stands.names stands.to_come stands.apart stands.others h
       met settled (Some o) is h =
-          let q = each_found (IsOption s) (λ x. bytes_eq x.word word) options o is each in
-          let own = (each_found (λ x. IsApart x.id r.names) (λ x. bytes_eq x.word word) options o is stands.others).0 in
-          let same : o.word ≡ word = (bytes_eq-Decides o.word word).0 q.1 in
+          let q = each_found (IsOption s) (λ x. bytes_eq (word_of x) word) options o is each in
+          let own = (each_found (λ x. IsApart x.id r.names) (λ x. bytes_eq (word_of x) word) options o is stands.others).0 in
+          let same : (word_of o) ≡ word = (bytes_eq-Decides (word_of o) word).0 q.1 in
           subst (λ (w : Text). IsNext s options (resting p (held rows pending)) w next) same (fresh o settled q.0 own (is_given o.id r.given) refl h)
 
       go : (d : Option Argument) → IsHeld s d r rows pending → due_read options d word r ≡ Some next → IsNext s options (place d p rows pending) word next
       go (Some o) due h =
           let q = value_given (is_value o.value word) _ next h in
           due_next o r next p rows pending word due stands.names stands.to_come stands.apart stands.others q.0 q.1
-      go None settled h = met settled (find (λ o. bytes_eq o.word word) options) refl h
+      go None settled h = met settled (find (λ o. bytes_eq (word_of o) word) options) refl h
 
   -- ---- all words
 

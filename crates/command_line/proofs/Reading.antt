@@ -3,7 +3,8 @@ use Rattle.std.proofs.Common.{◌≡◌, ◌||◌, ◌++◌, Bool, true, false, 
 use Rattle.std.specs.List.{list_any}
 use Rattle.std.specs.Option.{option_map_or}
 use Rattle.clap.specs.Walk.{Text}
-use Rattle.command_line.specs.Plain.{Argument, Given, Line, Reading, Value, Flag, Name, Number, due_read, is_given, is_value, name_read, option_read, read_all, step, word_read}
+use Rattle.command_line.specs.App.{Argument, Line, Value, Flag, Name, Number}
+use Rattle.command_line.specs.Plain.{Given, Reading, due_read, is_given, is_value, name_read, option_read, read_all, step, word_read, word_of}
 use Rattle.command_line.proofs.Rows.{Each, each_found, each_more}
 
 -- the argument of a line with an id
@@ -112,9 +113,9 @@ module _ (l : Line) (options : Each (IsListed l) l.options) where
       fresh o listed true h = cc
       fresh o listed false h = by_value o.value o refl listed h
 
-      met : (o : Option Argument) → find (λ o. bytes_eq o.word word) l.options ≡ o → word_read o word r ≡ Some next → IsOn l next
+      met : (o : Option Argument) → find (λ o. bytes_eq (word_of o) word) l.options ≡ o → word_read o word r ≡ Some next → IsOn l next
       met None is h = named r.names on.names on.covered h
-      met (Some o) is h = fresh o (each_found (IsListed l) (λ x. bytes_eq x.word word) l.options o is options).0 (is_given o.id r.given) h
+      met (Some o) is h = fresh o (each_found (IsListed l) (λ x. bytes_eq (word_of x) word) l.options o is options).0 (is_given o.id r.given) h
 
       go : (d : Option Argument) → option_map_or (λ o. argument_at l o.id) d None ≡ d → due_read l.options d word r ≡ Some next → IsOn l next
       go (Some o) listed h =
@@ -127,7 +128,7 @@ module _ (l : Line) (options : Each (IsListed l) l.options) where
             due = refl;
           } in
           subst (IsOn l) (sym q.1) result
-      go None listed h = met (find (λ o. bytes_eq o.word word) l.options) refl h
+      go None listed h = met (find (λ o. bytes_eq (word_of o) word) l.options) refl h
 
   pub all_on : (words : List Text) (r end : Reading) → IsOn l r → read_all l.options (Some r) words ≡ Some end → IsOn l end
   all_on [] r end on e = subst (IsOn l) (ap (λ (x : Option Reading). unwrap_or x end) e) on

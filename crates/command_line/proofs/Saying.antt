@@ -7,8 +7,9 @@ use Rattle.clap.specs.Values.{read_as}
 use Rattle.clap.specs.Walk.{Row, Rule, Text, first_of, row_text}
 use Rattle.clap.specs.declared.builder.value_parser.Reading.{Reading}
 use Rattle.clap.specs.declared.builder.value_parser.Reading.TheVariants.{AsWritten}
-use Rattle.command_line.specs.Meant.{check_from, demo_from, has_flag, is_true, number_in, number_of, replay_from, verify_from}
-use Rattle.command_line.specs.Plain.{Argument, Given, Line, Number, check_given, demo_given, is_on, is_value, number_or_one, replay_given, text_of, verify_given}
+use Rattle.command_line.specs.Meant.{has_flag, is_true, number_in, number_of}
+use Rattle.command_line.specs.App.{Argument, Line, Number}
+use Rattle.command_line.specs.Plain.{Given, is_on, is_value, number_or_one, text_of}
 use Rattle.command_line.proofs.Rows.{Each, each_found}
 use Rattle.command_line.proofs.Uses.{given_row, reading_at}
 use Rattle.command_line.proofs.Decimals.{number_is}
@@ -66,28 +67,11 @@ option_same c id given l n least most good listed number how fits one = number_s
     go None = one
     go (Some text) = refl
 
--- ---- what a command asks for
-
-pub check_same : (l r : Option Text) (k w : Option ℕ) (rows : List Row) (given : List Given) → k ≡ Some (number_or_one (text_of (codes "k") given)) → w ≡ Some (number_or_one (text_of (codes "j") given))
-    → has_flag (codes "classes") rows ≡ is_on (text_of (codes "classes") given) → has_flag (codes "stats") rows ≡ is_on (text_of (codes "stats") given)
-    → first_of (codes "trace") rows ≡ text_of (codes "trace") given → first_of (codes "cert") rows ≡ text_of (codes "cert") given → check_from l r k w rows ≡ check_given l r given
-check_same None r k w rows given a b d e f g = refl
-check_same (Some l) None k w rows given a b d e f g = refl
-check_same (Some l) (Some r) k w rows given a b d e f g = rw (a, b, d, e, f, g) refl
-
-pub replay_same : (l r t : Option Text) → replay_from l r t ≡ replay_given l r t
-replay_same None r t = refl
-replay_same (Some l) None t = refl
-replay_same (Some l) (Some r) None = refl
-replay_same (Some l) (Some r) (Some t) = refl
-
-pub verify_same : (l r t : Option Text) → verify_from l r t ≡ verify_given l r t
-verify_same None r t = refl
-verify_same (Some l) None t = refl
-verify_same (Some l) (Some r) None = refl
-verify_same (Some l) (Some r) (Some t) = refl
-
-pub demo_same : (n : Option Text) (m k w : Option ℕ) (given : List Given) → m ≡ option_map (digits_value 10) n → k ≡ Some (number_or_one (text_of (codes "k") given)) → w ≡ Some (number_or_one (text_of (codes "j") given))
-    → demo_from m k w ≡ demo_given n given
-demo_same None m k w given a b d = rw a refl
-demo_same (Some t) m k w given a b d = rw (a, b, d) refl
+-- a number without a default
+pub size_same : (c : List Rule) (id : Text) (given : List Given) (l : Line) (n : Argument) (least most : ℕ) → Each (IsGood l) given → argument_at l id ≡ Some n → n.value ≡ Number least most → reading_at c id ≡ AsWritten
+    → most < 2 ^ 64 → default_at id c ≡ None → number_of id least most (end_rows c given) ≡ option_map (digits_value 10) (text_of id given)
+size_same c id given l n least most good listed number how fits none = number_same c id given l n least most good listed number how fits ∙ go (text_of id given)
+  where
+    go : (o : Option Text) → number_or c id given (number_in least most (option_and_then row_text (default_at id c))) o ≡ option_map (digits_value 10) o
+    go None = ap (λ (d : Option Row). number_in least most (option_and_then row_text d)) none
+    go (Some text) = refl

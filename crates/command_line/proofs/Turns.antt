@@ -7,7 +7,8 @@ use Rattle.clap.specs.Lexer.{long_of, short_of, usize_max}
 use Rattle.clap.specs.Simple.{Shape}
 use Rattle.clap.specs.Faults.{settle_fault, turn_fault, use_fault}
 use Rattle.clap.specs.Walk.{Held, Row, Rule, Text, Walk, arg_by_index, idle, option, settled_rows, to_positional, walked}
-use Rattle.command_line.specs.Plain.{Argument, Given, Number, Name, Flag, Value, is_decimal, is_digit, is_given, is_value}
+use Rattle.command_line.specs.App.{Argument, Number, Name, Flag, Value}
+use Rattle.command_line.specs.Plain.{Given, is_decimal, is_digit, is_given, is_value}
 use Rattle.clap.proofs.WalkLemmas.{both}
 use Rattle.command_line.proofs.Uses.{IsTaker, given_rows, value_fine, value_used}
 

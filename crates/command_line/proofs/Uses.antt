@@ -11,7 +11,8 @@ use Rattle.clap.specs.declared.builder.action.ArgAction.TheVariants.{Set, SetTru
 use Rattle.clap.specs.declared.builder.value_parser.Reading.{Reading}
 use Rattle.clap.specs.declared.builder.value_parser.Reading.TheVariants.{AsWritten}
 use Rattle.clap.specs.declared.parser.matches.ValueSource.TheVariants.{CommandLine}
-use Rattle.command_line.specs.Plain.{Argument, Given, is_given, is_value}
+use Rattle.command_line.specs.App.{Argument}
+use Rattle.command_line.specs.Plain.{Given, is_given, is_value}
 use Rattle.command_line.proofs.Rows.{at_end}
 
 -- the row of an argument that was given

@@ -3,7 +3,8 @@
 use Rattle.std.specs.Prelude.{◌==◌, ℕ, leb, ◌&&◌, ◌||◌, Bool, true, false, not, if◌then◌else◌, List, [], ◌∷◌, ◌++◌, codes, bytes_eq, String, map, find, string_bytes, Option, None, Some, option_map, option_and_then}
 use Rattle.std.specs.List.{list_all, list_any}
 use Rattle.std.specs.Str.Parse.{digits_value}
-use Rattle.command_line.specs.Asked.{Asked, ForCheck, ForReplay, ForVerify, ForDemo}
+use Rattle.command_line.specs.Asked.{Asked, Values, check_of, demo_of, replay_of, verify_of}
+use Rattle.command_line.specs.App.{Argument, Flag, Line, Long, Name, Number, Place, Short, Spelling, Value, check_line, demo_line, replay_line, verify_line}
 
 -- the words as their bytes
 abbrev pub texts : {Z : Type 0} → List (String Z) → List (List ℕ)
@@ -26,70 +27,20 @@ abbrev pub is_decimal : List ℕ → Bool
 is_decimal [] = false
 is_decimal (c ∷ cs) = (not (c == 48) || is_end cs) && list_all is_digit (c ∷ cs)
 
--- what the value of an argument is: a flag has none
-pub data Value : Type 0 where
-  Flag : Value
-  Name : Value
-  Number : ℕ → ℕ → Value
-
 -- a text can be this value; a flag that is there is `true`, and a number is within its limits
 abbrev pub is_value : Value → List ℕ → Bool
 is_value Flag word = bytes_eq word (codes "true")
 is_value Name word = is_name word
 is_value (Number least most) word = is_decimal word && (leb least (digits_value 10 word) && leb (digits_value 10 word) most)
 
--- a name or an option of a command; an option has a word of its own
-pub record Argument : Type 0 where
-  pub id : List ℕ
-  pub word : List ℕ
-  pub value : Value
+-- the word of an option
+abbrev pub spelled_word : Spelling → List ℕ
+spelled_word Place = []
+spelled_word (Short letter) = 45 ∷ letter ∷ []
+spelled_word (Long id) = 45 ∷ 45 ∷ id
 
--- a line of the usage text
-pub record Line : Type 0 where
-  pub names : List Argument
-  pub options : List Argument
-
-abbrev pub name_of : List ℕ → Argument
-name_of id = record { id = id; word = []; value = Name }
-
-abbrev pub depth : Argument
-depth = record { id = codes "k"; word = codes "-k"; value = Number 1 16 }
-
-abbrev pub workers : Argument
-workers = record { id = codes "j"; word = codes "-j"; value = Number 1 64 }
-
-abbrev pub flag_of : List ℕ → List ℕ → Argument
-flag_of id word = record { id = id; word = word; value = Flag }
-
-abbrev pub file_of : List ℕ → List ℕ → Argument
-file_of id word = record { id = id; word = word; value = Name }
-
-abbrev pub classes : Argument
-classes = flag_of (codes "classes") (codes "--classes")
-
-abbrev pub stats : Argument
-stats = flag_of (codes "stats") (codes "--stats")
-
-abbrev pub trace : Argument
-trace = file_of (codes "trace") (codes "--trace")
-
-abbrev pub cert : Argument
-cert = file_of (codes "cert") (codes "--cert")
-
-abbrev pub size : Argument
-size = record { id = codes "N"; word = []; value = Number 0 100000 }
-
-abbrev pub check_line : Line
-check_line = record { names = name_of (codes "LEFT") ∷ name_of (codes "RIGHT") ∷ []; options = depth ∷ workers ∷ classes ∷ stats ∷ trace ∷ cert ∷ [] }
-
-abbrev pub replay_line : Line
-replay_line = record { names = name_of (codes "LEFT") ∷ name_of (codes "RIGHT") ∷ name_of (codes "TRACE") ∷ []; options = [] }
-
-abbrev pub verify_line : Line
-verify_line = record { names = name_of (codes "LEFT") ∷ name_of (codes "RIGHT") ∷ name_of (codes "CERT") ∷ []; options = [] }
-
-abbrev pub demo_line : Line
-demo_line = record { names = size ∷ []; options = depth ∷ workers ∷ [] }
+abbrev pub word_of : Argument → List ℕ
+word_of o = spelled_word o.spelling
 
 -- an argument that was given, with its value
 pub record Given : Type 0 where
@@ -126,7 +77,7 @@ word_read None word r = name_read word r.given r.names
 -- one word more
 abbrev pub due_read : List Argument → Option Argument → List ℕ → Reading → Option Reading
 due_read options (Some o) word r = value_read o word r.given r.names
-due_read options None word r = word_read (find (λ o. bytes_eq o.word word) options) word r
+due_read options None word r = word_read (find (λ o. bytes_eq (word_of o) word) options) word r
 
 abbrev pub step : List Argument → Reading → List ℕ → Option Reading
 step options r word = due_read options r.due word r
@@ -159,42 +110,28 @@ abbrev pub number_or_one : Option (List ℕ) → ℕ
 number_or_one None = 1
 number_or_one (Some text) = digits_value 10 text
 
-abbrev pub check_given : Option (List ℕ) → Option (List ℕ) → List Given → Option Asked
-check_given (Some left) (Some right) given = Some (ForCheck (record {
-  left = left;
-  right = right;
-  k = number_or_one (text_of (codes "k") given);
-  workers = number_or_one (text_of (codes "j") given);
-  classes = is_on (text_of (codes "classes") given);
-  stats = is_on (text_of (codes "stats") given);
-  trace = text_of (codes "trace") given;
-  cert = text_of (codes "cert") given;
-}))
-check_given left right given = None
+abbrev pub values_given : List Given → Values
+values_given given = record {
+  text = λ id. text_of id given;
+  size = λ id most. option_map (digits_value 10) (text_of id given);
+  number = λ id most. Some (number_or_one (text_of id given));
+  flag = λ id. is_on (text_of id given);
+}
 
-abbrev pub replay_given : Option (List ℕ) → Option (List ℕ) → Option (List ℕ) → Option Asked
-replay_given (Some left) (Some right) (Some third) = Some (ForReplay (record { left = left; right = right; trace = third }))
-replay_given left right third = None
+-- what the words after a command ask for
+abbrev pub asked_by : Line → (Values → Option Asked) → List (List ℕ) → Option Asked
+asked_by line asks words = option_and_then (λ g. asks (values_given g)) (given_by line words)
 
-abbrev pub verify_given : Option (List ℕ) → Option (List ℕ) → Option (List ℕ) → Option Asked
-verify_given (Some left) (Some right) (Some third) = Some (ForVerify (record { left = left; right = right; cert = third }))
-verify_given left right third = None
-
-abbrev pub demo_given : Option (List ℕ) → List Given → Option Asked
-demo_given (Some size) given = Some (ForDemo (record { n = digits_value 10 size; k = number_or_one (text_of (codes "k") given); workers = number_or_one (text_of (codes "j") given) }))
-demo_given None given = None
-
--- what a command and the words after it ask for
 abbrev pub command_read : List ℕ → List (List ℕ) → Option Asked
-command_read name words =
-    if bytes_eq name (codes "check") then option_and_then (λ g. check_given (text_of (codes "LEFT") g) (text_of (codes "RIGHT") g) g) (given_by check_line words)
-    else if bytes_eq name (codes "replay") then option_and_then (λ g. replay_given (text_of (codes "LEFT") g) (text_of (codes "RIGHT") g) (text_of (codes "TRACE") g)) (given_by replay_line words)
-    else if bytes_eq name (codes "verify") then option_and_then (λ g. verify_given (text_of (codes "LEFT") g) (text_of (codes "RIGHT") g) (text_of (codes "CERT") g)) (given_by verify_line words)
-    else if bytes_eq name (codes "demo") then option_and_then (λ g. demo_given (text_of (codes "N") g) g) (given_by demo_line words)
+command_read command words =
+    if bytes_eq command check_line.command then asked_by check_line check_of words
+    else if bytes_eq command replay_line.command then asked_by replay_line replay_of words
+    else if bytes_eq command verify_line.command then asked_by verify_line verify_of words
+    else if bytes_eq command demo_line.command then asked_by demo_line demo_of words
     else None
 
 -- what plain words ask for, or none where they aren't plain
 unfoldable pub plain_command : List (List ℕ) → Option Asked
 plain_command [] = None
 plain_command (program ∷ []) = None
-plain_command (program ∷ name ∷ words) = command_read name words
+plain_command (program ∷ command ∷ words) = command_read command words

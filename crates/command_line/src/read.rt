@@ -1,7 +1,7 @@
 // The words of a run, as clap takes them.
 ghost use Rattle.std.specs.Prelude.{◌≡◌, IfErr, IfOk, MatchResult, None, Some, is_some, true};
-ghost use Rattle.command_line.specs.Asked.{asked_of, IsWithin};
-ghost use Rattle.command_line.specs.Meant.{AreNoCommand, is_taken, meant};
+ghost use Rattle.command_line.specs.Asked.{Asked, asked_of, IsWithin};
+ghost use Rattle.command_line.specs.Meant.{AreNoCommand, is_taken, meant, taken_command};
 ghost use Rattle.command_line.specs.Plain.{plain_command, texts};
 
 use crate::command::{Command, Unread};
@@ -16,6 +16,7 @@ use std::alloc::Global;
 pub fn read_words<'w>(alloc: Global, words: &'w [String]) -> Result<Command<'w>, Unread>
     ensures meant { MatchResult result (λ c. meant (texts words.now) ≡ Some (asked_of c)) (λ e. e ≡ Unread.NotACommand → meant (texts words.now) ≡ None) }
     ensures plain { is_some (plain_command (texts words.now)) ≡ true → IfErr result (λ e. e ≡ Unread.Memory) }
+    ensures agree { (a : Asked) → plain_command (texts words.now) ≡ Some a → taken_command (texts words.now) ≡ Some a }
     ensures refused { IfErr result (λ e. e ≡ Unread.NotACommand → AreNoCommand (texts words.now)) }
     ensures taken { is_taken (texts words.now) ≡ true → IfErr result (λ e. e ≡ Unread.Memory) }
     ensures within { IfOk result (λ c. IsWithin (asked_of c)) }

@@ -4,7 +4,7 @@ use Rattle.std.proofs.lemmas.Result.{IfErr-weaker}
 use Rattle.command_line.specs.declared.command.Unread.TheVariants.{NotACommand}
 use Rattle.command_line.specs.Asked.{Asked, asked_of}
 use Rattle.command_line.specs.Plain.{texts}
-use Rattle.command_line.proofs.PlainTaken.{plain_is_taken, refused_is_not_plain, meant_is_taken}
+use Rattle.command_line.proofs.PlainTaken.{plain_agrees, plain_is_taken, refused_is_not_plain, meant_is_taken}
 use Rattle.command_line.proofs.read.read_words.Goals as goal
 
 pub returns : goal.returns
@@ -14,6 +14,7 @@ returns c =
     record {
       meant = subst (λ (m : Option Asked). MatchResult t.result (λ x. m ≡ Some (asked_of x)) (λ e. e ≡ NotACommand → m ≡ None)) (sym (meant_is_taken words)) t.ensures.read;
       plain = λ some. t.ensures.taken (plain_is_taken words some);
+      agree = plain_agrees words;
       refused = IfErr-weaker t.result _ _ (λ e h no. record { plain = refused_is_not_plain words (h no); taken = h no }) t.ensures.refused;
       taken = t.ensures.taken;
       within = t.ensures.within;
