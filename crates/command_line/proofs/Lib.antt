@@ -13,6 +13,7 @@ pub mod Reading
 pub mod Rows
 pub mod Saying
 pub mod Spelling
+pub mod Standing
 pub mod Taking
 pub mod Turns
 pub mod Uses

@@ -5,7 +5,7 @@ use Rattle.command_line.specs.Asked.{most_depth, most_size, most_workers}
 use Rattle.command_line.specs.App.{sec_app, check_app, replay_app, verify_app, demo_app, check_line, replay_line, verify_line, demo_line, depth, workers, file, flag, name, size}
 use Rattle.command_line.proofs.Decimals.{number_passes}
 use Rattle.command_line.proofs.Leaves.{sub, rule}
-use Rattle.command_line.proofs.PlainWalk.{IsFlagOption, IsValueOption, IsPositional}
+use Rattle.command_line.proofs.Standing.{IsFlagOption, IsValueOption, IsPositional}
 use Rattle.command_line.proofs.PlainLevel.{IsLineOf}
 
 pub check_is : IsLineOf (sub 0) check_line

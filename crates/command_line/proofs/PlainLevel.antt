@@ -14,7 +14,8 @@ use Rattle.command_line.specs.Plain.{Given, Reading, complete, given_by, is_give
 use Rattle.command_line.proofs.Rows.{Each}
 use Rattle.command_line.proofs.Uses.{given_row, given_rows}
 use Rattle.command_line.proofs.Turns.{IsSettled, held, resting}
-use Rattle.command_line.proofs.PlainWalk.{AreApart, ArePositional, AreToCome, IsApart, IsHeld, IsOption, Stands, place, plain_walk}
+use Rattle.command_line.proofs.Standing.{AreApart, ArePositional, AreToCome, IsApart, IsHeld, IsOption, Stands, place}
+use Rattle.command_line.proofs.PlainWalk.{plain_walk}
 use Rattle.command_line.proofs.Reading.{IsGood, IsListed, IsOn, all_on, is_covered, is_named}
 use Rattle.command_line.proofs.Finding.{or_row, row_found}
 
@@ -117,10 +118,7 @@ module _ (s : Shape) (l : Line) (fit : IsLineOf s l) (words : List Text) where
           let q = completed end.due end.names end.given given h in
           let stands : Stands s l.options start 1 [] None = record {
             held = record { fine = refl; kept = refl };
-            names = fit.names;
-            to_come = nothing_given l.names;
-            apart = fit.apart;
-            others = fit.others;
+            ahead = record { at = fit.names; to_come = nothing_given l.names; apart = fit.apart; others = fit.others };
           } in
           let reached = plain_walk s l.options fit.options words start end 1 [] None stands is in
           let first : IsOn l start = record { good = tt; covered = fit.covered; names = fit.listed_names; due = refl } in

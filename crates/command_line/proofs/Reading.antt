@@ -67,7 +67,8 @@ covered_by_name (n ∷ ns) m names given g same h =
     let b : is_covered n.id (given ++ g ∷ []) names ≡ true = rw (given_more n.id given g, same) (or_moved (is_given n.id given) (is_named n.id names) (bytes_eq m.id n.id) h.0) in
     (b, covered_by_name ns m names given g same h.1)
 
-value_given : (b : Bool) (x next : Reading) → cond b (Some x) None ≡ Some next → (b ≡ true) × (next ≡ x)
+-- a word that was read
+pub value_given : (b : Bool) (x next : Reading) → cond b (Some x) None ≡ Some next → (b ≡ true) × (next ≡ x)
 value_given true x next e = (refl, ap (λ (o : Option Reading). unwrap_or o x) (sym e))
 value_given false x next e = cc
 

@@ -21,7 +21,7 @@ pub data Value : Type 0 where
   Name : Value
   Number : ℕ → ℕ → Value
 
--- a name or an option of a command
+-- a name or an option of a command, with the id that clap knows it by
 pub record Argument : Type 0 where
   pub id : Text
   pub spelling : Spelling
