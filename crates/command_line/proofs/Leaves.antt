@@ -8,17 +8,18 @@ use Rattle.clap.specs.Faults.{built_fault, entered_fault, level_fault}
 use Rattle.clap.specs.Walk.{Row, Rule, Text, answers_to, first_of, nothing_held, rows_after, walk}
 use Rattle.clap.specs.Words.{fault_of, subcommand_of}
 use Rattle.command_line.specs.App.{sec_app, check_app, replay_app, verify_app, demo_app}
-use Rattle.command_line.specs.Meant.{check_from, replay_from, verify_from, demo_from, matched, number_of}
+use Rattle.command_line.specs.Asked.{check_from, replay_from, verify_from, demo_from, most_depth, most_size, most_workers}
+use Rattle.command_line.specs.Meant.{has_flag, matched, number_of}
 use Rattle.command_line.proofs.Rows.{Each, each_found, set_keeps, flag_keeps, help_keeps}
 use Rattle.command_line.proofs.Walking.{IsFineStop}
 use Rattle.command_line.proofs.Ends.{IsFit, IsRight, leaf_right, top_right, given_there}
 use Rattle.command_line.proofs.Spelling.{text_there, number_there}
 
 -- the subcommand at a place, as built, and an argument of it
-abbrev sub : ℕ → Shape
+abbrev pub sub : ℕ → Shape
 sub i = slice_index_or (built sec_app).subs i help_shape
 
-abbrev rule : ℕ → ℕ → Rule
+abbrev pub rule : ℕ → ℕ → Rule
 rule i k = slice_index_or (sub i).rules k help_rule
 
 is_there : (id : Text) (rows : List Row) → not (is_given id rows) ≡ false → is_given id rows ≡ true
@@ -28,12 +29,13 @@ is_there id rows h = go (is_given id rows) h
     go true e = refl
     go false e = cc
 
-check_some : (l r : Option Text) (k w : Option ℕ) (rows : List Row) → is_some l ≡ true → is_some r ≡ true → is_some k ≡ true → is_some w ≡ true → is_some (check_from l r k w rows) ≡ true
-check_some None r k w rows a b c d = cc
-check_some (Some l) None k w rows a b c d = cc
-check_some (Some l) (Some r) None w rows a b c d = cc
-check_some (Some l) (Some r) (Some k) None rows a b c d = cc
-check_some (Some l) (Some r) (Some k) (Some w) rows a b c d = refl
+check_some : (l r : Option Text) (k w : Option ℕ) (classes stats : Bool) (trace cert : Option Text) → is_some l ≡ true → is_some r ≡ true → is_some k ≡ true → is_some w ≡ true
+    → is_some (check_from l r k w classes stats trace cert) ≡ true
+check_some None r k w classes stats trace cert a b c d = cc
+check_some (Some l) None k w classes stats trace cert a b c d = cc
+check_some (Some l) (Some r) None w classes stats trace cert a b c d = cc
+check_some (Some l) (Some r) (Some k) None classes stats trace cert a b c d = cc
+check_some (Some l) (Some r) (Some k) (Some w) classes stats trace cert a b c d = refl
 
 replay_some : (l r t : Option Text) → is_some l ≡ true → is_some r ≡ true → is_some t ≡ true → is_some (replay_from l r t) ≡ true
 replay_some None r t a b c = cc
@@ -119,9 +121,9 @@ check_right rows r =
     let right = given_there (codes "RIGHT") rows (is_there (codes "RIGHT") rows r.required.1.0) in
     let depth = r.defaults (codes "k") (inr (inr (inl (refl, omega arith)))) in
     let workers = r.defaults (codes "j") (inr (inr (inr (inl (refl, omega arith))))) in
-    check_some (first_of (codes "LEFT") rows) (first_of (codes "RIGHT") rows) (number_of (codes "k") 1 16 rows) (number_of (codes "j") 1 64 rows) rows
+    check_some (first_of (codes "LEFT") rows) (first_of (codes "RIGHT") rows) (number_of (codes "k") 1 most_depth rows) (number_of (codes "j") 1 most_workers rows) (has_flag (codes "classes") rows) (has_flag (codes "stats") rows) (first_of (codes "trace") rows) (first_of (codes "cert") rows)
     (text_there (sub 0).rules (codes "LEFT") rows left r.read) (text_there (sub 0).rules (codes "RIGHT") rows right r.read)
-    (number_there (sub 0).rules (codes "k") rows (rule 0 2) 1 16 refl refl depth r.read) (number_there (sub 0).rules (codes "j") rows (rule 0 3) 1 64 refl refl workers r.read)
+    (number_there (sub 0).rules (codes "k") rows (rule 0 2) 1 most_depth refl refl depth r.read) (number_there (sub 0).rules (codes "j") rows (rule 0 3) 1 most_workers refl refl workers r.read)
 
 replay_right : (rows : List Row) → IsRight (sub 1) rows → is_some (matched (Some ((sub 1).name, rows))) ≡ true
 unfolding sec_app check_app replay_app verify_app demo_app
@@ -147,9 +149,9 @@ demo_right rows r =
     let size = given_there (codes "N") rows (is_there (codes "N") rows r.required.0) in
     let depth = r.defaults (codes "k") (inr (inl (refl, omega arith))) in
     let workers = r.defaults (codes "j") (inr (inr (inl (refl, omega arith)))) in
-    demo_some (number_of (codes "N") 0 100000 rows) (number_of (codes "k") 1 16 rows) (number_of (codes "j") 1 64 rows)
-    (number_there (sub 3).rules (codes "N") rows (rule 3 0) 0 100000 refl refl size r.read)
-    (number_there (sub 3).rules (codes "k") rows (rule 3 1) 1 16 refl refl depth r.read) (number_there (sub 3).rules (codes "j") rows (rule 3 2) 1 64 refl refl workers r.read)
+    demo_some (number_of (codes "N") 0 most_size rows) (number_of (codes "k") 1 most_depth rows) (number_of (codes "j") 1 most_workers rows)
+    (number_there (sub 3).rules (codes "N") rows (rule 3 0) 0 most_size refl refl size r.read)
+    (number_there (sub 3).rules (codes "k") rows (rule 3 1) 1 most_depth refl refl depth r.read) (number_there (sub 3).rules (codes "j") rows (rule 3 2) 1 most_workers refl refl workers r.read)
 
 asks : (off : Bool) (word : Text) (s : Shape) → IsFit s → ((rows : List Row) → IsRight s rows → is_some (matched (Some (s.name, rows))) ≡ true) → AsksFor off word s
 asks off word s fit right answers other words f = right (rows_after s.rules [] words) (leaf_right s fit words f)

@@ -1,54 +1,119 @@
--- The command that is given to clap: a required subcommand for each line of the usage text, and nothing else but clap's own help.
-use Rattle.std.specs.Prelude.{◌≡◌, ℕ, true, false, codes, Some, [], ◌∷◌}
+-- The lines of the usage text, and the command that is made of them for clap: a required subcommand for each line, and nothing else
+-- but clap's own help.
+use Rattle.std.specs.Prelude.{◌≡◌, ℕ, true, false, codes, List, [], ◌∷◌, Some, fold}
 use Rattle.clap.specs.Words.{App, Rule, Shape, Text, new_app, new_rule, with_rule, with_subcommand, app_of}
 use Rattle.clap.specs.Simple.{on_top}
 use Rattle.clap.specs.declared.builder.action.ArgAction.TheVariants.{Set, SetTrue}
 use Rattle.clap.specs.declared.builder.command.Command.{Command}
 use Rattle.clap.specs.declared.builder.command.Command.TheViews.{out-Command as fields_of}
 use Rattle.clap.specs.declared.builder.value_parser.ValueParser.TheVariants as readers
+use Rattle.command_line.specs.Asked.{most_depth, most_size, most_workers}
 
--- a word that has to be there
-abbrev pub name_rule : Text → Rule
-name_rule id = record (new_rule id) { required = true; action = Some Set }
+-- how an argument is spelled: a name by its place, an option as `-k` or as `--trace`
+pub data Spelling : Type 0 where
+  Place : Spelling
+  Short : ℕ → Spelling
+  Long : Text → Spelling
 
--- a number that has to be there, as the size of a demo
-abbrev pub size_rule : Text → ℕ → Rule
-size_rule id most = record (name_rule id) { parser = Some (readers.Unsigned 0 most) }
+-- the value of an argument: a flag has none, and a number is within its limits
+pub data Value : Type 0 where
+  Flag : Value
+  Name : Value
+  Number : ℕ → ℕ → Value
 
--- an option with a number, which is 1 where the option is left out
-abbrev pub number_rule : Text → ℕ → ℕ → Rule
-number_rule id letter most = record (new_rule id) { short = Some letter; action = Some Set; parser = Some (readers.Unsigned 1 most); defaults = codes "1" ∷ [] }
+-- a name or an option of a command, with the id that clap knows it by
+pub record Argument : Type 0 where
+  pub id : Text
+  pub spelling : Spelling
+  pub value : Value
 
--- an option with the name of a file
-abbrev pub file_rule : Text → Rule
-file_rule id = record (new_rule id) { long = Some id; action = Some Set }
+-- a line of the usage text
+pub record Line : Type 0 where
+  pub command : Text
+  pub names : List Argument
+  pub options : List Argument
 
-abbrev pub flag_rule : Text → Rule
-flag_rule id = record (new_rule id) { long = Some id; action = Some SetTrue }
+abbrev pub name : Text → Argument
+name id = record { id = id; spelling = Place; value = Name }
 
--- the depth of the induction, and how many workers
-abbrev pub depth_rule : Rule
-depth_rule = number_rule (codes "k") 107 16
+abbrev pub size : Argument
+size = record { id = codes "N"; spelling = Place; value = Number 0 most_size }
 
-abbrev pub workers_rule : Rule
-workers_rule = number_rule (codes "j") 106 64
+abbrev pub number : Text → ℕ → ℕ → Argument
+number id letter most = record { id = id; spelling = Short letter; value = Number 1 most }
+
+abbrev pub file : Text → Argument
+file id = record { id = id; spelling = Long id; value = Name }
+
+abbrev pub flag : Text → Argument
+flag id = record { id = id; spelling = Long id; value = Flag }
+
+abbrev pub depth : Argument
+depth = number (codes "k") 107 most_depth
+
+abbrev pub workers : Argument
+workers = number (codes "j") 106 most_workers
+
+abbrev pub check_line : Line
+check_line = record {
+  command = codes "check";
+  names = name (codes "LEFT") ∷ name (codes "RIGHT") ∷ [];
+  options = depth ∷ workers ∷ flag (codes "classes") ∷ flag (codes "stats") ∷ file (codes "trace") ∷ file (codes "cert") ∷ [];
+}
+
+abbrev pub replay_line : Line
+replay_line = record { command = codes "replay"; names = name (codes "LEFT") ∷ name (codes "RIGHT") ∷ name (codes "TRACE") ∷ []; options = [] }
+
+abbrev pub verify_line : Line
+verify_line = record { command = codes "verify"; names = name (codes "LEFT") ∷ name (codes "RIGHT") ∷ name (codes "CERT") ∷ []; options = [] }
+
+abbrev pub demo_line : Line
+demo_line = record { command = codes "demo"; names = size ∷ []; options = depth ∷ workers ∷ [] }
+
+-- ---- the command for clap
+
+abbrev pub spelled : Spelling → Rule → Rule
+spelled Place r = r
+spelled (Short letter) r = record r { short = Some letter }
+spelled (Long id) r = record r { long = Some id }
+
+abbrev pub valued : Value → Rule → Rule
+valued Flag r = record r { action = Some SetTrue }
+valued Name r = record r { action = Some Set }
+valued (Number least most) r = record r { action = Some Set; parser = Some (readers.Unsigned least most) }
+
+-- a name has to be there
+abbrev pub name_rule : Argument → Rule
+name_rule a = record (valued a.value (new_rule a.id)) { required = true }
+
+-- the number of an option is 1 where it is left out
+abbrev pub defaults_of : Value → List Text
+defaults_of (Number least most) = codes "1" ∷ []
+defaults_of value = []
+
+abbrev pub option_rule : Argument → Rule
+option_rule a = record (spelled a.spelling (valued a.value (new_rule a.id))) { defaults = defaults_of a.value }
+
+abbrev pub with_names : App → List Argument → App
+with_names app names = fold (λ a n. with_rule a (name_rule n)) app names
+
+abbrev pub with_options : App → List Argument → App
+with_options app options = fold (λ a o. with_rule a (option_rule o)) app options
+
+abbrev pub app_for : Line → App
+app_for l = with_options (with_names (new_app l.command) l.names) l.options
 
 unfoldable pub check_app : App
-check_app =
-    with_rule (with_rule (with_rule (with_rule (with_rule (with_rule (with_rule (with_rule (new_app (codes "check"))
-    (name_rule (codes "LEFT"))) (name_rule (codes "RIGHT")))
-    depth_rule) workers_rule)
-    (flag_rule (codes "classes"))) (flag_rule (codes "stats")))
-    (file_rule (codes "trace"))) (file_rule (codes "cert"))
+check_app = app_for check_line
 
 unfoldable pub replay_app : App
-replay_app = with_rule (with_rule (with_rule (new_app (codes "replay")) (name_rule (codes "LEFT"))) (name_rule (codes "RIGHT"))) (name_rule (codes "TRACE"))
+replay_app = app_for replay_line
 
 unfoldable pub verify_app : App
-verify_app = with_rule (with_rule (with_rule (new_app (codes "verify")) (name_rule (codes "LEFT"))) (name_rule (codes "RIGHT"))) (name_rule (codes "CERT"))
+verify_app = app_for verify_line
 
 unfoldable pub demo_app : App
-demo_app = with_rule (with_rule (with_rule (new_app (codes "demo")) (size_rule (codes "N") 100000)) depth_rule) workers_rule
+demo_app = app_for demo_line
 
 abbrev pub with_required_subcommand : App → App
 with_required_subcommand a = on_top (λ (s : Shape). record s { subcommand_required = true }) a

@@ -1,5 +1,5 @@
 -- What the words of a run ask for: a command, with its names as texts.
-use Rattle.std.specs.Prelude.{◌<◌, ◌≤◌, ℕ, Bool, List, Option, option_map}
+use Rattle.std.specs.Prelude.{◌<◌, ◌≤◌, ℕ, Bool, List, Option, Some, None, codes, option_map}
 use Rattle.command_line.specs.declared.command.Check.{Check}
 use Rattle.command_line.specs.declared.command.Replay.{Replay}
 use Rattle.command_line.specs.declared.command.Verify.{Verify}
@@ -49,18 +49,28 @@ asked_of (commands.Replay c) = ForReplay (replay_asked c)
 asked_of (commands.Verify c) = ForVerify (verify_asked c)
 asked_of (commands.Demo d) = ForDemo d
 
+-- the greatest depth, the most workers, and the greatest size of a demo
+abbrev pub most_depth : ℕ
+most_depth = 16
+
+abbrev pub most_workers : ℕ
+most_workers = 64
+
+abbrev pub most_size : ℕ
+most_size = 100000
+
 -- the depth and the workers of `check` are within their limits
 pub record IsCheckWithin (c : CheckAsked) : Type 0 where
   pub some : 0 < c.k
-  pub few : c.k ≤ 16
-  pub workers : (0 < c.workers) × (c.workers ≤ 64)
+  pub few : c.k ≤ most_depth
+  pub workers : (0 < c.workers) × (c.workers ≤ most_workers)
 
 -- and those of `demo`, with its size
 pub record IsDemoWithin (d : Demo) : Type 0 where
-  pub size : d.n ≤ 100000
+  pub size : d.n ≤ most_size
   pub some : 0 < d.k
-  pub few : d.k ≤ 16
-  pub workers : (0 < d.workers) × (d.workers ≤ 64)
+  pub few : d.k ≤ most_depth
+  pub workers : (0 < d.workers) × (d.workers ≤ most_workers)
 
 -- the numbers that are asked for are within their limits
 abbrev pub IsWithin : Asked → Type 0
@@ -68,3 +78,41 @@ IsWithin (ForCheck c) = IsCheckWithin c
 IsWithin (ForReplay c) = Unit {0}
 IsWithin (ForVerify c) = Unit {0}
 IsWithin (ForDemo d) = IsDemoWithin d
+
+-- the values of arguments, by their ids: a text, a number that has to be there, an option's number within limits, and whether a
+-- flag was there
+pub record Values : Type 0 where
+  pub text : List ℕ → Option (List ℕ)
+  pub size : List ℕ → ℕ → Option ℕ
+  pub number : List ℕ → ℕ → Option ℕ
+  pub flag : List ℕ → Bool
+
+abbrev pub check_from : Option (List ℕ) → Option (List ℕ) → Option ℕ → Option ℕ → Bool → Bool → Option (List ℕ) → Option (List ℕ) → Option Asked
+check_from (Some left) (Some right) (Some k) (Some workers) classes stats trace cert =
+    Some (ForCheck (record { left = left; right = right; k = k; workers = workers; classes = classes; stats = stats; trace = trace; cert = cert }))
+check_from left right k workers classes stats trace cert = None
+
+-- what the values of `check` ask for
+abbrev pub check_of : Values → Option Asked
+check_of v = check_from (v.text (codes "LEFT")) (v.text (codes "RIGHT")) (v.number (codes "k") most_depth) (v.number (codes "j") most_workers) (v.flag (codes "classes")) (v.flag (codes "stats")) (v.text (codes "trace")) (v.text (codes "cert"))
+
+abbrev pub replay_from : Option (List ℕ) → Option (List ℕ) → Option (List ℕ) → Option Asked
+replay_from (Some left) (Some right) (Some trace) = Some (ForReplay (record { left = left; right = right; trace = trace }))
+replay_from left right trace = None
+
+abbrev pub replay_of : Values → Option Asked
+replay_of v = replay_from (v.text (codes "LEFT")) (v.text (codes "RIGHT")) (v.text (codes "TRACE"))
+
+abbrev pub verify_from : Option (List ℕ) → Option (List ℕ) → Option (List ℕ) → Option Asked
+verify_from (Some left) (Some right) (Some cert) = Some (ForVerify (record { left = left; right = right; cert = cert }))
+verify_from left right cert = None
+
+abbrev pub verify_of : Values → Option Asked
+verify_of v = verify_from (v.text (codes "LEFT")) (v.text (codes "RIGHT")) (v.text (codes "CERT"))
+
+abbrev pub demo_from : Option ℕ → Option ℕ → Option ℕ → Option Asked
+demo_from (Some n) (Some k) (Some workers) = Some (ForDemo (record { n = n; k = k; workers = workers }))
+demo_from n k workers = None
+
+abbrev pub demo_of : Values → Option Asked
+demo_of v = demo_from (v.size (codes "N") most_size) (v.number (codes "k") most_depth) (v.number (codes "j") most_workers)

@@ -1,4 +1,4 @@
 pub mod Asked
-pub mod Plain
 pub mod App
+pub mod Plain
 pub mod Meant

@@ -3,8 +3,8 @@ use Rattle.std.specs.Prelude.{◌≡◌, ℕ, Bool, true, false, if◌then◌els
 use Rattle.std.specs.Str.Parse.{digits_value, without_leading_plus}
 use Rattle.clap.specs.Words.{Kinds, Row, fault_of, first_of, one_of, subcommand_of}
 use Rattle.clap.specs.ValueTests.{is_unsigned_in}
-use Rattle.command_line.specs.Asked.{Asked, ForCheck, ForReplay, ForVerify, ForDemo}
-use Rattle.command_line.specs.App.{sec_app}
+use Rattle.command_line.specs.Asked.{Asked, Values, check_of, demo_of, replay_of, verify_of}
+use Rattle.command_line.specs.App.{check_line, demo_line, replay_line, sec_app, verify_line}
 use Rattle.command_line.specs.Plain.{plain_command}
 
 -- the number that a text spells for clap, where it is within these limits: decimal, maybe with zeros or a plus before it
@@ -22,52 +22,23 @@ is_true (Some text) = bytes_eq text (codes "true")
 abbrev pub has_flag : List ℕ → List Row → Bool
 has_flag id rows = is_true (first_of id rows)
 
-abbrev pub check_from : Option (List ℕ) → Option (List ℕ) → Option ℕ → Option ℕ → List Row → Option Asked
-check_from (Some left) (Some right) (Some k) (Some workers) rows = Some (ForCheck (record {
-  left = left;
-  right = right;
-  k = k;
-  workers = workers;
-  classes = has_flag (codes "classes") rows;
-  stats = has_flag (codes "stats") rows;
-  trace = first_of (codes "trace") rows;
-  cert = first_of (codes "cert") rows;
-}))
-check_from left right k workers rows = None
-
--- what clap's matches of `check` say
-abbrev pub check_matched : List Row → Option Asked
-check_matched rows = check_from (first_of (codes "LEFT") rows) (first_of (codes "RIGHT") rows) (number_of (codes "k") 1 16 rows) (number_of (codes "j") 1 64 rows) rows
-
-abbrev pub replay_from : Option (List ℕ) → Option (List ℕ) → Option (List ℕ) → Option Asked
-replay_from (Some left) (Some right) (Some trace) = Some (ForReplay (record { left = left; right = right; trace = trace }))
-replay_from left right trace = None
-
-abbrev pub replay_matched : List Row → Option Asked
-replay_matched rows = replay_from (first_of (codes "LEFT") rows) (first_of (codes "RIGHT") rows) (first_of (codes "TRACE") rows)
-
-abbrev pub verify_from : Option (List ℕ) → Option (List ℕ) → Option (List ℕ) → Option Asked
-verify_from (Some left) (Some right) (Some cert) = Some (ForVerify (record { left = left; right = right; cert = cert }))
-verify_from left right cert = None
-
-abbrev pub verify_matched : List Row → Option Asked
-verify_matched rows = verify_from (first_of (codes "LEFT") rows) (first_of (codes "RIGHT") rows) (first_of (codes "CERT") rows)
-
-abbrev pub demo_from : Option ℕ → Option ℕ → Option ℕ → Option Asked
-demo_from (Some n) (Some k) (Some workers) = Some (ForDemo (record { n = n; k = k; workers = workers }))
-demo_from n k workers = None
-
-abbrev pub demo_matched : List Row → Option Asked
-demo_matched rows = demo_from (number_of (codes "N") 0 100000 rows) (number_of (codes "k") 1 16 rows) (number_of (codes "j") 1 64 rows)
+-- what clap's matches have of the arguments
+abbrev pub values_matched : List Row → Values
+values_matched rows = record {
+  text = λ id. first_of id rows;
+  size = λ id most. number_of id 0 most rows;
+  number = λ id most. number_of id 1 most rows;
+  flag = λ id. has_flag id rows;
+}
 
 -- what clap's matches say, by the name of the subcommand
 abbrev pub matched : Option (List ℕ × List Row) → Option Asked
 matched None = None
 matched (Some m) =
-    if bytes_eq m.0 (codes "check") then check_matched m.1
-    else if bytes_eq m.0 (codes "replay") then replay_matched m.1
-    else if bytes_eq m.0 (codes "verify") then verify_matched m.1
-    else if bytes_eq m.0 (codes "demo") then demo_matched m.1
+    if bytes_eq m.0 check_line.command then check_of (values_matched m.1)
+    else if bytes_eq m.0 replay_line.command then replay_of (values_matched m.1)
+    else if bytes_eq m.0 verify_line.command then verify_of (values_matched m.1)
+    else if bytes_eq m.0 demo_line.command then demo_of (values_matched m.1)
     else None
 
 abbrev pub are_none : Kinds → Bool

@@ -1,66 +1,67 @@
 // The command that is given to clap: a required subcommand for each line of the usage text. Its own help is clap's.
 ghost use Rattle.std.specs.Prelude.{◌≡◌, codes, false, IfOk};
 ghost use Rattle.clap.specs.Words.{rule_of};
-ghost use Rattle.command_line.specs.App.{name_rule, size_rule, number_rule, depth_rule, workers_rule, file_rule, flag_rule, check_app, replay_app, verify_app, demo_app, sec_app, IsCommand};
+ghost use Rattle.command_line.specs.App.{name, size, number, depth, workers, file, flag, name_rule, option_rule, check_app, replay_app, verify_app, demo_app, sec_app, IsCommand};
 
+use crate::command::{MOST_DEPTH, MOST_SIZE, MOST_WORKERS};
 use clap::builder::ValueParser;
 use clap::{Arg, ArgAction, Command};
 use std::alloc::{AllocError, Global};
 
 // A word that has to be there.
 fn name_arg<'a>(alloc: Global, id: &'a str) -> Arg<'a>
-    ensures rule { rule_of result ≡ name_rule id.entry.now }
+    ensures rule { rule_of result ≡ name_rule (name id.entry.now) }
     ensures local { result.global ≡ false }
 {
     Arg::new(alloc, id).required(true).action(ArgAction::Set)
 }
 
-// A number that has to be there.
-fn size_arg<'a>(alloc: Global, id: &'a str, most: u64) -> Arg<'a>
-    ensures rule { rule_of result ≡ size_rule id.entry.now most }
+// The size of a demo, which has to be there.
+fn size_arg<'a>(alloc: Global) -> Arg<'a>
+    ensures rule { rule_of result ≡ name_rule size }
     ensures local { result.global ≡ false }
 {
-    name_arg(alloc, id).value_parser(ValueParser::unsigned(0, most))
+    name_arg(alloc, "N").value_parser(ValueParser::unsigned(0, MOST_SIZE as u64))
 }
 
 // An option with a number, which is 1 where the option is left out.
-fn number_arg<'a>(alloc: Global, id: &'a str, letter: char, most: u64) -> Arg<'a>
-    ensures rule { rule_of result ≡ number_rule id.entry.now letter most }
+fn number_arg<'a>(alloc: Global, id: &'a str, letter: char, most: u32) -> Arg<'a>
+    ensures rule { rule_of result ≡ option_rule (number id.entry.now letter most) }
     ensures local { result.global ≡ false }
 {
     Arg::new(alloc, id)
         .short(letter)
         .action(ArgAction::Set)
-        .value_parser(ValueParser::unsigned(1, most))
+        .value_parser(ValueParser::unsigned(1, most as u64))
         .default_value("1")
 }
 
 // The depth of the induction.
 fn depth_arg<'a>(alloc: Global) -> Arg<'a>
-    ensures rule { rule_of result ≡ depth_rule }
+    ensures rule { rule_of result ≡ option_rule depth }
     ensures local { result.global ≡ false }
 {
-    number_arg(alloc, "k", 'k', 16)
+    number_arg(alloc, "k", 'k', MOST_DEPTH)
 }
 
 // How many workers are asked for.
 fn workers_arg<'a>(alloc: Global) -> Arg<'a>
-    ensures rule { rule_of result ≡ workers_rule }
+    ensures rule { rule_of result ≡ option_rule workers }
     ensures local { result.global ≡ false }
 {
-    number_arg(alloc, "j", 'j', 64)
+    number_arg(alloc, "j", 'j', MOST_WORKERS)
 }
 
 // An option with the name of a file.
 fn file_arg<'a>(alloc: Global, id: &'a str) -> Arg<'a>
-    ensures rule { rule_of result ≡ file_rule id.entry.now }
+    ensures rule { rule_of result ≡ option_rule (file id.entry.now) }
     ensures local { result.global ≡ false }
 {
     Arg::new(alloc, id).long(id).action(ArgAction::Set)
 }
 
 fn flag_arg<'a>(alloc: Global, id: &'a str) -> Arg<'a>
-    ensures rule { rule_of result ≡ flag_rule id.entry.now }
+    ensures rule { rule_of result ≡ option_rule (flag id.entry.now) }
     ensures local { result.global ≡ false }
 {
     Arg::new(alloc, id).long(id).action(ArgAction::SetTrue)
@@ -102,7 +103,7 @@ fn demo_command<'a>(alloc: Global) -> Result<Command<'a>, AllocError>
     ensures { IfOk result (IsCommand demo_app) }
 {
     Command::new(alloc, "demo")
-        .arg(size_arg(alloc, "N", 100000))?
+        .arg(size_arg(alloc))?
         .arg(depth_arg(alloc))?
         .arg(workers_arg(alloc))
 }

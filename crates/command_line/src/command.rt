@@ -1,5 +1,12 @@
 // What the words of a run ask for. In contracts a command is seen with its names as texts: `asked_of`.
 
+/// The greatest depth of the induction.
+pub(crate) const MOST_DEPTH: u32 = 16;
+/// The most workers that may be asked for.
+pub(crate) const MOST_WORKERS: u32 = 64;
+/// The greatest size of a demo.
+pub(crate) const MOST_SIZE: u32 = 100_000;
+
 /// The words of `check`.
 #[derive(Clone, Copy, Debug, PartialEq, Eq)]
 pub struct Check<'w> {

@@ -3,7 +3,6 @@
 
 mod app;
 mod command;
-mod plain;
 mod read;
 mod taken;
 

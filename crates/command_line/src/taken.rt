@@ -1,12 +1,14 @@
-// Words that aren't plain, as clap takes them.
+// The words as clap takes them: what its matches say becomes the command.
 ghost use Rattle.std.specs.Prelude.{◌≡◌, ◌≤◌, IfErr, IfOk, IfSome, MatchResult, None, Some, false, option_map, true};
 ghost use Rattle.clap.specs.Words.{first_of, found_of, rows_of, subcommand_rows_of};
-ghost use Rattle.command_line.specs.Asked.{asked_of, IsWithin};
-ghost use Rattle.command_line.specs.Meant.{number_of, has_flag, check_matched, replay_matched, verify_matched, demo_matched, matched, is_taken, taken_command};
+ghost use Rattle.command_line.specs.Asked.{asked_of, IsWithin, check_of, demo_of, replay_of, verify_of};
+ghost use Rattle.command_line.specs.Meant.{number_of, has_flag, values_matched, matched, is_taken, taken_command};
 ghost use Rattle.command_line.specs.Plain.{texts};
 
 use crate::app::sec_command;
-use crate::command::{Check, Command, Demo, Replay, Unread, Verify};
+use crate::command::{
+    Check, Command, Demo, MOST_DEPTH, MOST_SIZE, MOST_WORKERS, Replay, Unread, Verify,
+};
 use clap::ArgMatches;
 use clap::error::ErrorKind;
 use std::alloc::Global;
@@ -42,13 +44,13 @@ fn has_flag(found: &ArgMatches, id: &str) -> bool
 }
 
 fn check_of<'w>(found: &ArgMatches<'w>) -> Option<Command<'w>>
-    ensures command { option_map asked_of result ≡ check_matched (rows_of (found_of found.now)) }
+    ensures command { option_map asked_of result ≡ check_of (values_matched (rows_of (found_of found.now))) }
     ensures within { IfSome result (λ c. IsWithin (asked_of c)) }
 {
     let left = text_of(found, "LEFT")?;
     let right = text_of(found, "RIGHT")?;
-    let k = number_of(found, "k", 1, 16)?;
-    let workers = number_of(found, "j", 1, 64)?;
+    let k = number_of(found, "k", 1, MOST_DEPTH)?;
+    let workers = number_of(found, "j", 1, MOST_WORKERS)?;
     Some(Command::Check(Check {
         left,
         right,
@@ -62,7 +64,7 @@ fn check_of<'w>(found: &ArgMatches<'w>) -> Option<Command<'w>>
 }
 
 fn replay_of<'w>(found: &ArgMatches<'w>) -> Option<Command<'w>>
-    ensures command { option_map asked_of result ≡ replay_matched (rows_of (found_of found.now)) }
+    ensures command { option_map asked_of result ≡ replay_of (values_matched (rows_of (found_of found.now))) }
     ensures within { IfSome result (λ c. IsWithin (asked_of c)) }
 {
     let left = text_of(found, "LEFT")?;
@@ -72,7 +74,7 @@ fn replay_of<'w>(found: &ArgMatches<'w>) -> Option<Command<'w>>
 }
 
 fn verify_of<'w>(found: &ArgMatches<'w>) -> Option<Command<'w>>
-    ensures command { option_map asked_of result ≡ verify_matched (rows_of (found_of found.now)) }
+    ensures command { option_map asked_of result ≡ verify_of (values_matched (rows_of (found_of found.now))) }
     ensures within { IfSome result (λ c. IsWithin (asked_of c)) }
 {
     let left = text_of(found, "LEFT")?;
@@ -82,12 +84,12 @@ fn verify_of<'w>(found: &ArgMatches<'w>) -> Option<Command<'w>>
 }
 
 fn demo_of<'w>(found: &ArgMatches<'w>) -> Option<Command<'w>>
-    ensures command { option_map asked_of result ≡ demo_matched (rows_of (found_of found.now)) }
+    ensures command { option_map asked_of result ≡ demo_of (values_matched (rows_of (found_of found.now))) }
     ensures within { IfSome result (λ c. IsWithin (asked_of c)) }
 {
-    let n = number_of(found, "N", 0, 100000)?;
-    let k = number_of(found, "k", 1, 16)?;
-    let workers = number_of(found, "j", 1, 64)?;
+    let n = number_of(found, "N", 0, MOST_SIZE)?;
+    let k = number_of(found, "k", 1, MOST_DEPTH)?;
+    let workers = number_of(found, "j", 1, MOST_WORKERS)?;
     Some(Command::Demo(Demo { n, k, workers }))
 }
 

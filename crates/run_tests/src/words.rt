@@ -10,190 +10,182 @@ fn words_of(alloc: Global, text: &str) -> Result<Vec<String>, AllocError> {
     Ok(words)
 }
 
-// Whether the words are read so.
-fn reads_as(
-    alloc: Global,
-    text: &str,
-    command: Result<Command, Unread>,
-) -> Result<bool, AllocError> {
-    let words = words_of(alloc, text)?;
-    Ok(read_words(alloc, words.as_slice()) == command)
+// An option with a name, where it was there.
+fn named(alloc: Global, option: &str, name: Option<&str>) -> Result<String, AllocError> {
+    match name {
+        Some(name) => format!(in alloc; " {option}=<{name}>"),
+        None => format!(in alloc; ""),
+    }
 }
 
-const CHECK: Check = Check {
-    left: "a",
-    right: "b",
-    k: 1,
-    workers: 1,
-    classes: false,
-    stats: false,
-    trace: None,
-    cert: None,
-};
+// What the words give, with each name between < and >.
+fn said(alloc: Global, text: &str) -> Result<String, AllocError> {
+    let words = words_of(alloc, text)?;
+    match read_words(alloc, words.as_slice()) {
+        Ok(Command::Check(c)) => {
+            let classes = if c.classes { " classes" } else { "" };
+            let stats = if c.stats { " stats" } else { "" };
+            let trace = named(alloc, "trace", c.trace)?;
+            let cert = named(alloc, "cert", c.cert)?;
+            let (left, right, k, workers) = (c.left, c.right, c.k, c.workers);
+            format!(in alloc;
+                "check <{left}> <{right}> k={k} j={workers}{classes}{stats}{trace}{cert}"
+            )
+        }
+        Ok(Command::Replay(r)) => {
+            let (left, right, trace) = (r.left, r.right, r.trace);
+            format!(in alloc; "replay <{left}> <{right}> <{trace}>")
+        }
+        Ok(Command::Verify(v)) => {
+            let (left, right, cert) = (v.left, v.right, v.cert);
+            format!(in alloc; "verify <{left}> <{right}> <{cert}>")
+        }
+        Ok(Command::Demo(d)) => {
+            let (n, k, workers) = (d.n, d.k, d.workers);
+            format!(in alloc; "demo {n} k={k} j={workers}")
+        }
+        Err(Unread::NotACommand) => format!(in alloc; "no command"),
+        Err(Unread::Memory) => format!(in alloc; "no memory"),
+    }
+}
 
 #[test]
 fn plain_words_mean_what_they_say(rt: HostRuntime) -> Result<(), Fail> {
-    let alloc = rt.alloc();
-    let all = Check {
-        k: 16,
-        workers: 64,
-        classes: true,
-        stats: true,
-        trace: Some("t"),
-        cert: Some("c"),
-        ..CHECK
-    };
     let rows = [
-        ("sec check a b", CHECK),
-        ("sec check -k 2 a b", Check { k: 2, ..CHECK }),
-        (
-            "sec check a -j 3 b",
-            Check {
-                workers: 3,
-                ..CHECK
-            },
-        ),
+        ("sec check a b", "check <a> <b> k=1 j=1"),
+        ("sec check -k 2 a b", "check <a> <b> k=2 j=1"),
+        ("sec check a -j 3 b", "check <a> <b> k=1 j=3"),
         (
             "sec check a b -k 16 -j 64 --classes --stats --trace t --cert c",
-            all,
+            "check <a> <b> k=16 j=64 classes stats trace=<t> cert=<c>",
         ),
         (
             "sec check --cert c --trace t a --stats --classes b -j 64 -k 16",
-            all,
+            "check <a> <b> k=16 j=64 classes stats trace=<t> cert=<c>",
         ),
+        (
+            "other/name check help check",
+            "check <help> <check> k=1 j=1",
+        ),
+        ("sec replay a b t", "replay <a> <b> <t>"),
+        ("sec verify a b c", "verify <a> <b> <c>"),
+        ("sec demo 0", "demo 0 k=1 j=1"),
+        ("sec demo -j 7 100000 -k 2", "demo 100000 k=2 j=7"),
     ];
-    for (text, check) in rows {
-        assert!(rt; reads_as(alloc, text, Ok(Command::Check(check)))?);
+    for (text, wanted) in rows {
+        assert_eq!(rt; said(rt.alloc(), text)?.as_str(), wanted, "{text}");
     }
-    let replay = Command::Replay(Replay {
-        left: "a",
-        right: "b",
-        trace: "t",
-    });
-    assert!(rt; reads_as(alloc, "sec replay a b t", Ok(replay))?);
-    let verify = Command::Verify(Verify {
-        left: "a",
-        right: "b",
-        cert: "c",
-    });
-    assert!(rt; reads_as(alloc, "sec verify a b c", Ok(verify))?);
-    let demo = Command::Demo(Demo {
-        n: 5,
-        k: 2,
-        workers: 7,
-    });
-    assert!(rt; reads_as(alloc, "sec demo -j 7 5 -k 2", Ok(demo))?);
     Ok(())
 }
 
 #[test]
-fn other_spellings_are_taken_by_clap(rt: HostRuntime) -> Result<(), Fail> {
-    let alloc = rt.alloc();
-    let deeper = Check { k: 2, ..CHECK };
-    let traced = Check {
-        trace: Some("f"),
-        ..CHECK
-    };
+fn other_spellings_that_clap_takes(rt: HostRuntime) -> Result<(), Fail> {
     let rows = [
-        ("sec check a b -k2", deeper),
-        ("sec check -k=2 a b", deeper),
-        ("sec check a -k +2 b", deeper),
-        ("sec check a b -k 02", deeper),
+        ("sec check a b -k2", "check <a> <b> k=2 j=1"),
+        ("sec check a b -k=3", "check <a> <b> k=3 j=1"),
+        ("sec check -k3 a b", "check <a> <b> k=3 j=1"),
+        ("sec check a -k +2 b", "check <a> <b> k=2 j=1"),
+        ("sec check a b -k 02", "check <a> <b> k=2 j=1"),
+        ("sec check a b -j064", "check <a> <b> k=1 j=64"),
+        ("sec check a b --trace=f", "check <a> <b> k=1 j=1 trace=<f>"),
         (
-            "sec check a b -j064",
-            Check {
-                workers: 64,
-                ..CHECK
-            },
+            "sec check a b --trace=f=g",
+            "check <a> <b> k=1 j=1 trace=<f=g>",
         ),
-        ("sec check a b --trace=f", traced),
         (
             "sec check a b --trace= --classes",
-            Check {
-                trace: Some(""),
-                classes: true,
-                ..CHECK
-            },
+            "check <a> <b> k=1 j=1 classes trace=<>",
         ),
+        ("sec check a b --trace -", "check <a> <b> k=1 j=1 trace=<->"),
         (
             "sec check --cert=-c a b --stats",
-            Check {
-                cert: Some("-c"),
-                stats: true,
-                ..CHECK
-            },
+            "check <a> <b> k=1 j=1 stats cert=<-c>",
         ),
-        (
-            "sec check -- -a b",
-            Check {
-                left: "-a",
-                ..CHECK
-            },
-        ),
-        ("sec check  b", Check { left: "", ..CHECK }),
+        ("sec check - b", "check <-> <b> k=1 j=1"),
+        ("sec check -- -a b", "check <-a> <b> k=1 j=1"),
+        ("sec check a -- --classes", "check <a> <--classes> k=1 j=1"),
+        ("sec check -- -- --", "check <--> <--> k=1 j=1"),
+        ("sec check a b --", "check <a> <b> k=1 j=1"),
+        ("sec check  b", "check <> <b> k=1 j=1"),
+        ("sec replay a b -- -t", "replay <a> <b> <-t>"),
+        ("sec verify -- -a b c", "verify <-a> <b> <c>"),
+        ("sec demo 05 -j3", "demo 5 k=1 j=3"),
+        ("sec demo +5", "demo 5 k=1 j=1"),
+        (" check a b", "check <a> <b> k=1 j=1"),
+        ("sec check a ", "check <a> <> k=1 j=1"),
     ];
-    for (text, check) in rows {
-        assert!(rt; reads_as(alloc, text, Ok(Command::Check(check)))?);
+    for (text, wanted) in rows {
+        assert_eq!(rt; said(rt.alloc(), text)?.as_str(), wanted, "{text}");
     }
-    let replay = Command::Replay(Replay {
-        left: "a",
-        right: "b",
-        trace: "-t",
-    });
-    assert!(rt; reads_as(alloc, "sec replay a b -- -t", Ok(replay))?);
-    let verify = Command::Verify(Verify {
-        left: "-a",
-        right: "b",
-        cert: "c",
-    });
-    assert!(rt; reads_as(alloc, "sec verify -- -a b c", Ok(verify))?);
-    let demo = Command::Demo(Demo {
-        n: 5,
-        k: 1,
-        workers: 3,
-    });
-    assert!(rt; reads_as(alloc, "sec demo 05 -j3", Ok(demo))?);
     Ok(())
 }
 
 #[test]
-fn words_that_mean_nothing(rt: HostRuntime) -> Result<(), Fail> {
-    let alloc = rt.alloc();
+fn words_that_are_no_command(rt: HostRuntime) -> Result<(), Fail> {
     for text in [
+        "",
         "sec",
+        "sec ",
         "sec help",
         "sec help check",
         "sec -h",
         "sec --help",
         "sec check --help",
         "sec check a b -h",
+        "sec check -h",
         "sec --version",
+        "sec -V",
+        "sec check a b --version",
         "sec proof a b",
+        "sec Check a b",
+        "sec chec a b",
         "sec -k 2 check a b",
+        "sec -- check a b",
+        "sec check",
         "sec check a",
         "sec check a b c",
+        "sec check a b ",
         "sec check a b -k",
+        "sec check a b -k ",
         "sec check a b -k 0",
+        "sec check a b -k0",
+        "sec check a b -k=0",
         "sec check a b -k 17",
         "sec check a b -k17",
         "sec check a b -k x",
+        "sec check a b -k -1",
+        "sec check a b -k=-1",
         "sec check a b -k 2 -k 3",
+        "sec check a b -k 2 -k2",
+        "sec check a b -kj",
+        "sec check a b -k 1.0",
+        "sec check a b -k 99999999999999999999",
+        "sec check a b --k 2",
+        "sec check a b -K 2",
+        "sec check a b -j 0",
         "sec check a b -j 65",
         "sec check a b --classes --classes",
-        "sec check a b --classes=x",
+        "sec check a b --classes=1",
+        "sec check a b --classes=",
+        "sec check a b --class",
+        "sec check a b -classes",
         "sec check a b --trace",
         "sec check a b --trace -k",
+        "sec check a b --trace --",
         "sec check a b --cert c --cert d",
+        "sec check a b -t f",
         "sec replay a b",
         "sec replay a b t -k 1",
+        "sec replay a b -t",
         "sec verify a b c d",
         "sec demo",
+        "sec demo x",
         "sec demo 100001",
         "sec demo 1 2",
         "sec demo 1 --stats",
         "sec demo -- -1",
     ] {
-        assert!(rt; reads_as(alloc, text, Err(Unread::NotACommand))?);
+        assert_eq!(rt; said(rt.alloc(), text)?.as_str(), "no command", "{text}");
     }
     Ok(())
 }
