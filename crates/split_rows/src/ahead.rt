@@ -6,14 +6,15 @@ use crate::rows::SplitRows;
 use crate::words::latch_words;
 use product_machine::Product;
 use sim_words::{SimState, Stimulus};
-use step_lanes::LaneRows;
 use std::alloc::{AllocError, Global};
+use step_lanes::LaneRows;
 
 // So many frames are simulated at most.
 const MOST: u32 = 1024;
 
 // Each step of so many frames has to add so many classes for every so many places.
 const STEP: u32 = 16;
+
 const SHARE: u32 = 300;
 
 // A reset of all runs, whose free latches are drawn.
@@ -118,7 +119,14 @@ impl<'p> SplitRows<'p> {
         draw_reset(alloc, &mut sim, &mut stimulus)?;
         let mut inputs = vec![in alloc; 0u64; product.inputs() as usize]?;
         self.run_while(alloc, &mut sim, &mut stimulus, inputs.as_mut_slice())?;
-        let last = next_rows(alloc, product, k, &mut sim, &mut stimulus, inputs.as_mut_slice())?;
+        let last = next_rows(
+            alloc,
+            product,
+            k,
+            &mut sim,
+            &mut stimulus,
+            inputs.as_mut_slice(),
+        )?;
         self.reached = latch_words(alloc, product, last.words())?;
         Ok(())
     }

@@ -7,8 +7,8 @@ use crate::rows::SplitRows;
 use crate::words::{drawn_among, lay};
 use class_partition::Classes;
 use pair_sweep::FreeBit;
-use step_lanes::{LaneRows, StepLanes};
 use std::alloc::{AllocError, Global};
+use step_lanes::{LaneRows, StepLanes};
 
 // So many frames are simulated after that of a model.
 const MORE: u32 = 8;
@@ -52,7 +52,9 @@ impl<'p> SplitRows<'p> {
         ensures inputs { length inputs.new ≡ length inputs.old }
     {
         let SplitRows {
-            stimulus, reached, ..
+            stimulus,
+            reached,
+            ..
         } = self;
         stimulus.fill(start);
         stimulus.fill(inputs);

@@ -9,10 +9,10 @@ use bit_rows::BitRow;
 use class_partition::{Classes, Needed};
 use product_machine::Product;
 use sim_words::Stimulus;
-use step_lanes::LaneRows;
 use std::alloc::{AllocError, Global};
 use std::marker::Model;
 use std::mem;
+use step_lanes::LaneRows;
 
 /// Rows of a pair's places, 64 in a block, each of which may split any classes that separate no pair of the greatest
 /// correspondence. A block is held while it splits the classes that are refined.
@@ -108,7 +108,9 @@ impl<'p> SplitRows<'p> {
     fn is_apart(&self, pair: Needed) -> bool {
         match &self.left {
             Some(left) => {
-                pair.member < left.len() && pair.rep < left.len() && !left.same(pair.rep, pair.member)
+                pair.member < left.len()
+                    && pair.rep < left.len()
+                    && !left.same(pair.rep, pair.member)
             }
             None => false,
         }

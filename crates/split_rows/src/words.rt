@@ -5,8 +5,8 @@ use class_partition::Classes;
 use frame_graph::Leaf;
 use pair_sweep::FreeBit;
 use product_machine::{Cell, Product};
-use step_lanes::LaneRows;
 use std::alloc::{AllocError, Global};
+use step_lanes::LaneRows;
 
 // Half of the lanes.
 const LOW: u64 = 0xffff_ffff;
