@@ -8,8 +8,8 @@ use Rattle.clap.specs.Faults.{built_fault, entered_fault, level_fault}
 use Rattle.clap.specs.Walk.{Row, Rule, Text, answers_to, first_of, nothing_held, rows_after, walk}
 use Rattle.clap.specs.Words.{fault_of, subcommand_of}
 use Rattle.command_line.specs.App.{sec_app, check_app, replay_app, verify_app, demo_app}
-use Rattle.command_line.specs.Asked.{check_from, replay_from, verify_from, demo_from, most_depth, most_size, most_workers}
-use Rattle.command_line.specs.Meant.{has_flag, matched, number_of}
+use Rattle.command_line.specs.Asked.{CheckAsked, check_from, replay_from, verify_from, demo_from, most_depth, most_size, most_workers}
+use Rattle.command_line.specs.Meant.{matched, number_of}
 use Rattle.command_line.proofs.Rows.{Each, each_found, set_keeps, flag_keeps, help_keeps}
 use Rattle.command_line.proofs.Walking.{IsFineStop}
 use Rattle.command_line.proofs.Ends.{IsFit, IsRight, leaf_right, top_right, given_there}
@@ -29,13 +29,13 @@ is_there id rows h = go (is_given id rows) h
     go true e = refl
     go false e = cc
 
-check_some : (l r : Option Text) (k w : Option ℕ) (classes stats : Bool) (trace cert : Option Text) → is_some l ≡ true → is_some r ≡ true → is_some k ≡ true → is_some w ≡ true
-    → is_some (check_from l r k w classes stats trace cert) ≡ true
-check_some None r k w classes stats trace cert a b c d = cc
-check_some (Some l) None k w classes stats trace cert a b c d = cc
-check_some (Some l) (Some r) None w classes stats trace cert a b c d = cc
-check_some (Some l) (Some r) (Some k) None classes stats trace cert a b c d = cc
-check_some (Some l) (Some r) (Some k) (Some w) classes stats trace cert a b c d = refl
+check_some : (l r : Option Text) (k w : Option ℕ) (asked : Text → Text → ℕ → ℕ → CheckAsked) → is_some l ≡ true → is_some r ≡ true → is_some k ≡ true → is_some w ≡ true
+    → is_some (check_from l r k w asked) ≡ true
+check_some None r k w asked a b c d = cc
+check_some (Some l) None k w asked a b c d = cc
+check_some (Some l) (Some r) None w asked a b c d = cc
+check_some (Some l) (Some r) (Some k) None asked a b c d = cc
+check_some (Some l) (Some r) (Some k) (Some w) asked a b c d = refl
 
 replay_some : (l r t : Option Text) → is_some l ≡ true → is_some r ≡ true → is_some t ≡ true → is_some (replay_from l r t) ≡ true
 replay_some None r t a b c = cc
@@ -121,7 +121,7 @@ check_right rows r =
     let right = given_there (codes "RIGHT") rows (is_there (codes "RIGHT") rows r.required.1.0) in
     let depth = r.defaults (codes "k") (inr (inr (inl (refl, omega arith)))) in
     let workers = r.defaults (codes "j") (inr (inr (inr (inl (refl, omega arith))))) in
-    check_some (first_of (codes "LEFT") rows) (first_of (codes "RIGHT") rows) (number_of (codes "k") 1 most_depth rows) (number_of (codes "j") 1 most_workers rows) (has_flag (codes "classes") rows) (has_flag (codes "stats") rows) (first_of (codes "trace") rows) (first_of (codes "cert") rows)
+    check_some (first_of (codes "LEFT") rows) (first_of (codes "RIGHT") rows) (number_of (codes "k") 1 most_depth rows) (number_of (codes "j") 1 most_workers rows) _
     (text_there (sub 0).rules (codes "LEFT") rows left r.read) (text_there (sub 0).rules (codes "RIGHT") rows right r.read)
     (number_there (sub 0).rules (codes "k") rows (rule 0 2) 1 most_depth refl refl depth r.read) (number_there (sub 0).rules (codes "j") rows (rule 0 3) 1 most_workers refl refl workers r.read)
 

@@ -1,5 +1,6 @@
 pub mod Building
 pub mod Decimals
+pub mod Distinct
 pub mod Ends
 pub mod Finding
 pub mod Leaves
