@@ -10,9 +10,10 @@ use Rattle.clap.specs.Words.{fault_of, subcommand_of}
 use Rattle.command_line.specs.App.{sec_app, check_app, replay_app, verify_app, demo_app}
 use Rattle.command_line.specs.Asked.{CheckAsked, check_from, replay_from, verify_from, demo_from, most_depth, most_size, most_workers}
 use Rattle.command_line.specs.Meant.{matched, number_of}
-use Rattle.command_line.proofs.Rows.{Each, each_found, set_keeps, flag_keeps, help_keeps}
+use Rattle.command_line.proofs.Rows.{Each, each_found}
 use Rattle.command_line.proofs.Walking.{IsFineStop}
 use Rattle.command_line.proofs.Ends.{IsFit, IsRight, leaf_right, top_right, given_there}
+use Rattle.command_line.proofs.Fitting.{fits}
 use Rattle.command_line.proofs.Spelling.{text_there, number_there}
 
 -- the subcommand at a place, as built, and an argument of it
@@ -62,57 +63,23 @@ AsksFor off word s = answers_to word (label_of s) ≡ true → (bytes_eq word (c
 
 check_fit : IsFit (sub 0)
 unfolding sec_app check_app replay_app verify_app demo_app
-check_fit = record {
-  keeps = (
-    set_keeps (sub 0).rules (rule 0 0) refl refl refl,
-    (
-      set_keeps (sub 0).rules (rule 0 1) refl refl refl,
-      (
-        set_keeps (sub 0).rules (rule 0 2) refl refl refl,
-        (
-          set_keeps (sub 0).rules (rule 0 3) refl refl refl,
-          (
-            flag_keeps (sub 0).rules (rule 0 4) (codes "true") [] refl refl refl,
-            (
-              flag_keeps (sub 0).rules (rule 0 5) (codes "true") [] refl refl refl,
-              (set_keeps (sub 0).rules (rule 0 6) refl refl refl, (set_keeps (sub 0).rules (rule 0 7) refl refl refl, (help_keeps (sub 0).rules (rule 0 8) refl, tt))),
-            ),
-          ),
-        ),
-      ),
-    ),
-  );
-  own = (refl, (refl, (refl, (refl, (refl, (refl, (refl, (refl, (refl, tt)))))))));
-  negates = refl;
-}
+check_fit = fits (sub 0) refl refl refl refl
 
 replay_fit : IsFit (sub 1)
 unfolding sec_app check_app replay_app verify_app demo_app
-replay_fit = record {
-  keeps = (set_keeps (sub 1).rules (rule 1 0) refl refl refl, (set_keeps (sub 1).rules (rule 1 1) refl refl refl, (set_keeps (sub 1).rules (rule 1 2) refl refl refl, (help_keeps (sub 1).rules (rule 1 3) refl, tt))));
-  own = (refl, (refl, (refl, (refl, tt))));
-  negates = refl;
-}
+replay_fit = fits (sub 1) refl refl refl refl
 
 verify_fit : IsFit (sub 2)
 unfolding sec_app check_app replay_app verify_app demo_app
-verify_fit = record {
-  keeps = (set_keeps (sub 2).rules (rule 2 0) refl refl refl, (set_keeps (sub 2).rules (rule 2 1) refl refl refl, (set_keeps (sub 2).rules (rule 2 2) refl refl refl, (help_keeps (sub 2).rules (rule 2 3) refl, tt))));
-  own = (refl, (refl, (refl, (refl, tt))));
-  negates = refl;
-}
+verify_fit = fits (sub 2) refl refl refl refl
 
 demo_fit : IsFit (sub 3)
 unfolding sec_app check_app replay_app verify_app demo_app
-demo_fit = record {
-  keeps = (set_keeps (sub 3).rules (rule 3 0) refl refl refl, (set_keeps (sub 3).rules (rule 3 1) refl refl refl, (set_keeps (sub 3).rules (rule 3 2) refl refl refl, (help_keeps (sub 3).rules (rule 3 3) refl, tt))));
-  own = (refl, (refl, (refl, (refl, tt))));
-  negates = refl;
-}
+demo_fit = fits (sub 3) refl refl refl refl
 
 top_fit : IsFit (built sec_app).top
 unfolding sec_app check_app replay_app verify_app demo_app
-top_fit = record { keeps = (help_keeps (built sec_app).top.rules (slice_index_or (built sec_app).top.rules 0 help_rule) refl, tt); own = (refl, tt); negates = refl }
+top_fit = fits (built sec_app).top refl refl refl refl
 
 check_right : (rows : List Row) → IsRight (sub 0) rows → is_some (matched (Some ((sub 0).name, rows))) ≡ true
 unfolding sec_app check_app replay_app verify_app demo_app

@@ -14,19 +14,19 @@ use Rattle.command_line.specs.Plain.{Given, Reading, complete, given_by, is_give
 use Rattle.command_line.proofs.Rows.{Each}
 use Rattle.command_line.proofs.Uses.{given_row, given_rows}
 use Rattle.command_line.proofs.Turns.{IsSettled, held, resting}
-use Rattle.command_line.proofs.Standing.{ArePositional, AreToCome, IsHeld, IsOption, Stands, place}
+use Rattle.command_line.proofs.Standing.{ArePositional, AreToCome, IsHeld, IsOption, Stands, place, back_apart, front_apart}
 use Rattle.command_line.proofs.PlainWalk.{plain_walk}
-use Rattle.command_line.proofs.Distinct.{are_distinct, back_apart, each_back, each_front, found_by_id, front_apart, named_by_id}
+use Rattle.command_line.proofs.Distinct.{are_distinct, each_back, each_front, found_by_id}
 use Rattle.command_line.specs.Meant.{are_none}
 use Rattle.clap.proofs.WalkLemmas.{both}
-use Rattle.command_line.proofs.Reading.{IsGood, IsListed, IsOn, all_on, is_covered, is_named}
+use Rattle.command_line.proofs.Reading.{IsGood, IsListed, IsOn, all_on, is_covered, is_named, named_by_id}
 use Rattle.command_line.proofs.Finding.{or_row, row_found}
 
 -- the line of the usage text is that of the command as built
 pub record IsLineOf (s : Shape) (l : Line) : Type 0 where
   pub options : Each (IsOption s) l.options
   pub names : ArePositional s 1 l.names
-  pub distinct : are_distinct (l.names ++ l.options) ≡ true
+  pub distinct : are_distinct (λ (n : Argument). n.id) (l.names ++ l.options) ≡ true
   pub defaults : list_all (λ (a : Rule). is_empty a.defaults || are_none (given_default_fault a a.defaults)) s.rules ≡ true
   pub required : list_all (λ (a : Rule). not a.required || is_named a.id l.names) s.rules ≡ true
   pub no_help : s.arg_required_else_help ≡ false
@@ -129,7 +129,7 @@ module _ (s : Shape) (l : Line) (fit : IsLineOf s l) (words : List Text) where
             ahead = record { at = fit.names; to_come = nothing_given l.names; apart = front_apart l.names l.options fit.distinct; others = back_apart l.names l.options fit.distinct };
           } in
           let reached = plain_walk s l.options fit.options words start end 1 [] None stands is in
-          let listed : Each (IsListed l) (l.names ++ l.options) = found_by_id (l.names ++ l.options) fit.distinct in
+          let listed : Each (IsListed l) (l.names ++ l.options) = found_by_id (λ (n : Argument). n.id) (l.names ++ l.options) fit.distinct in
           let first : IsOn l start = record { good = tt; covered = named_by_id l.names; names = each_front (IsListed l) l.names l.options listed; due = refl } in
           let on = all_on l (each_back (IsListed l) l.names l.options listed) words start end first is in
           let p = reached.position in
