@@ -8,11 +8,12 @@ use Rattle.clap.specs.Faults.{built_fault, entered_fault, level_fault}
 use Rattle.clap.specs.Walk.{Row, Rule, Text, answers_to, first_of, nothing_held, rows_after, walk}
 use Rattle.clap.specs.Words.{fault_of, subcommand_of}
 use Rattle.command_line.specs.App.{sec_app, check_app, replay_app, verify_app, demo_app}
-use Rattle.command_line.specs.Asked.{check_from, replay_from, verify_from, demo_from, most_depth, most_size, most_workers}
-use Rattle.command_line.specs.Meant.{has_flag, matched, number_of}
-use Rattle.command_line.proofs.Rows.{Each, each_found, set_keeps, flag_keeps, help_keeps}
+use Rattle.command_line.specs.Asked.{CheckAsked, check_from, replay_from, verify_from, demo_from, most_depth, most_size, most_workers}
+use Rattle.command_line.specs.Meant.{matched, number_of}
+use Rattle.command_line.proofs.Rows.{Each, each_found}
 use Rattle.command_line.proofs.Walking.{IsFineStop}
 use Rattle.command_line.proofs.Ends.{IsFit, IsRight, leaf_right, top_right, given_there}
+use Rattle.command_line.proofs.Fitting.{fits}
 use Rattle.command_line.proofs.Spelling.{text_there, number_there}
 
 -- the subcommand at a place, as built, and an argument of it
@@ -29,13 +30,13 @@ is_there id rows h = go (is_given id rows) h
     go true e = refl
     go false e = cc
 
-check_some : (l r : Option Text) (k w : Option ℕ) (classes stats : Bool) (trace cert : Option Text) → is_some l ≡ true → is_some r ≡ true → is_some k ≡ true → is_some w ≡ true
-    → is_some (check_from l r k w classes stats trace cert) ≡ true
-check_some None r k w classes stats trace cert a b c d = cc
-check_some (Some l) None k w classes stats trace cert a b c d = cc
-check_some (Some l) (Some r) None w classes stats trace cert a b c d = cc
-check_some (Some l) (Some r) (Some k) None classes stats trace cert a b c d = cc
-check_some (Some l) (Some r) (Some k) (Some w) classes stats trace cert a b c d = refl
+check_some : (l r : Option Text) (k w : Option ℕ) (asked : Text → Text → ℕ → ℕ → CheckAsked) → is_some l ≡ true → is_some r ≡ true → is_some k ≡ true → is_some w ≡ true
+    → is_some (check_from l r k w asked) ≡ true
+check_some None r k w asked a b c d = cc
+check_some (Some l) None k w asked a b c d = cc
+check_some (Some l) (Some r) None w asked a b c d = cc
+check_some (Some l) (Some r) (Some k) None asked a b c d = cc
+check_some (Some l) (Some r) (Some k) (Some w) asked a b c d = refl
 
 replay_some : (l r t : Option Text) → is_some l ≡ true → is_some r ≡ true → is_some t ≡ true → is_some (replay_from l r t) ≡ true
 replay_some None r t a b c = cc
@@ -62,57 +63,23 @@ AsksFor off word s = answers_to word (label_of s) ≡ true → (bytes_eq word (c
 
 check_fit : IsFit (sub 0)
 unfolding sec_app check_app replay_app verify_app demo_app
-check_fit = record {
-  keeps = (
-    set_keeps (sub 0).rules (rule 0 0) refl refl refl,
-    (
-      set_keeps (sub 0).rules (rule 0 1) refl refl refl,
-      (
-        set_keeps (sub 0).rules (rule 0 2) refl refl refl,
-        (
-          set_keeps (sub 0).rules (rule 0 3) refl refl refl,
-          (
-            flag_keeps (sub 0).rules (rule 0 4) (codes "true") [] refl refl refl,
-            (
-              flag_keeps (sub 0).rules (rule 0 5) (codes "true") [] refl refl refl,
-              (set_keeps (sub 0).rules (rule 0 6) refl refl refl, (set_keeps (sub 0).rules (rule 0 7) refl refl refl, (help_keeps (sub 0).rules (rule 0 8) refl, tt))),
-            ),
-          ),
-        ),
-      ),
-    ),
-  );
-  own = (refl, (refl, (refl, (refl, (refl, (refl, (refl, (refl, (refl, tt)))))))));
-  negates = refl;
-}
+check_fit = fits (sub 0) refl refl refl refl
 
 replay_fit : IsFit (sub 1)
 unfolding sec_app check_app replay_app verify_app demo_app
-replay_fit = record {
-  keeps = (set_keeps (sub 1).rules (rule 1 0) refl refl refl, (set_keeps (sub 1).rules (rule 1 1) refl refl refl, (set_keeps (sub 1).rules (rule 1 2) refl refl refl, (help_keeps (sub 1).rules (rule 1 3) refl, tt))));
-  own = (refl, (refl, (refl, (refl, tt))));
-  negates = refl;
-}
+replay_fit = fits (sub 1) refl refl refl refl
 
 verify_fit : IsFit (sub 2)
 unfolding sec_app check_app replay_app verify_app demo_app
-verify_fit = record {
-  keeps = (set_keeps (sub 2).rules (rule 2 0) refl refl refl, (set_keeps (sub 2).rules (rule 2 1) refl refl refl, (set_keeps (sub 2).rules (rule 2 2) refl refl refl, (help_keeps (sub 2).rules (rule 2 3) refl, tt))));
-  own = (refl, (refl, (refl, (refl, tt))));
-  negates = refl;
-}
+verify_fit = fits (sub 2) refl refl refl refl
 
 demo_fit : IsFit (sub 3)
 unfolding sec_app check_app replay_app verify_app demo_app
-demo_fit = record {
-  keeps = (set_keeps (sub 3).rules (rule 3 0) refl refl refl, (set_keeps (sub 3).rules (rule 3 1) refl refl refl, (set_keeps (sub 3).rules (rule 3 2) refl refl refl, (help_keeps (sub 3).rules (rule 3 3) refl, tt))));
-  own = (refl, (refl, (refl, (refl, tt))));
-  negates = refl;
-}
+demo_fit = fits (sub 3) refl refl refl refl
 
 top_fit : IsFit (built sec_app).top
 unfolding sec_app check_app replay_app verify_app demo_app
-top_fit = record { keeps = (help_keeps (built sec_app).top.rules (slice_index_or (built sec_app).top.rules 0 help_rule) refl, tt); own = (refl, tt); negates = refl }
+top_fit = fits (built sec_app).top refl refl refl refl
 
 check_right : (rows : List Row) → IsRight (sub 0) rows → is_some (matched (Some ((sub 0).name, rows))) ≡ true
 unfolding sec_app check_app replay_app verify_app demo_app
@@ -121,7 +88,7 @@ check_right rows r =
     let right = given_there (codes "RIGHT") rows (is_there (codes "RIGHT") rows r.required.1.0) in
     let depth = r.defaults (codes "k") (inr (inr (inl (refl, omega arith)))) in
     let workers = r.defaults (codes "j") (inr (inr (inr (inl (refl, omega arith))))) in
-    check_some (first_of (codes "LEFT") rows) (first_of (codes "RIGHT") rows) (number_of (codes "k") 1 most_depth rows) (number_of (codes "j") 1 most_workers rows) (has_flag (codes "classes") rows) (has_flag (codes "stats") rows) (first_of (codes "trace") rows) (first_of (codes "cert") rows)
+    check_some (first_of (codes "LEFT") rows) (first_of (codes "RIGHT") rows) (number_of (codes "k") 1 most_depth rows) (number_of (codes "j") 1 most_workers rows) _
     (text_there (sub 0).rules (codes "LEFT") rows left r.read) (text_there (sub 0).rules (codes "RIGHT") rows right r.read)
     (number_there (sub 0).rules (codes "k") rows (rule 0 2) 1 most_depth refl refl depth r.read) (number_there (sub 0).rules (codes "j") rows (rule 0 3) 1 most_workers refl refl workers r.read)
 

@@ -1,7 +1,9 @@
 pub mod Building
 pub mod Decimals
+pub mod Distinct
 pub mod Ends
 pub mod Finding
+pub mod Fitting
 pub mod Leaves
 pub mod Lines
 pub mod Numbers

@@ -1,6 +1,6 @@
 -- A command's parse of plain words: it has no fault, and its rows are those of what the words give, and the defaults.
-use Rattle.std.proofs.Common.{◌≡◌, ◌∙◌, ◌&&◌, ◌||◌, ℕ, Bool, true, false, not, cond, List, [], ◌∷◌, Option, Some, None, find, fold, option_map, option_and_then, ap, subst, subst₂, refl, bytes_eq}
-use Rattle.std.specs.List.{list_any}
+use Rattle.std.proofs.Common.{◌≡◌, ◌∙◌, ◌&&◌, ◌||◌, ◌++◌, ℕ, Bool, true, false, not, cond, List, [], ◌∷◌, Option, Some, None, find, fold, option_map, option_and_then, ap, subst, subst₂, refl, bytes_eq}
+use Rattle.std.specs.List.{list_all, list_any}
 use Rattle.std.specs.Option.{option_map_or}
 use Rattle.std.proofs.lemmas.Slice.Eq.{bytes_eq-Decides}
 use Rattle.clap.specs.Kinds.{Kinds, or_else}
@@ -14,22 +14,21 @@ use Rattle.command_line.specs.Plain.{Given, Reading, complete, given_by, is_give
 use Rattle.command_line.proofs.Rows.{Each}
 use Rattle.command_line.proofs.Uses.{given_row, given_rows}
 use Rattle.command_line.proofs.Turns.{IsSettled, held, resting}
-use Rattle.command_line.proofs.Standing.{AreApart, ArePositional, AreToCome, IsApart, IsHeld, IsOption, Stands, place}
+use Rattle.command_line.proofs.Standing.{ArePositional, AreToCome, IsHeld, IsOption, Stands, place, back_apart, front_apart}
 use Rattle.command_line.proofs.PlainWalk.{plain_walk}
-use Rattle.command_line.proofs.Reading.{IsGood, IsListed, IsOn, all_on, is_covered, is_named}
+use Rattle.command_line.proofs.Distinct.{are_distinct, each_back, each_front, found_by_id}
+use Rattle.command_line.specs.Meant.{are_none}
+use Rattle.clap.proofs.WalkLemmas.{both}
+use Rattle.command_line.proofs.Reading.{IsGood, IsListed, IsOn, all_on, is_covered, is_named, named_by_id}
 use Rattle.command_line.proofs.Finding.{or_row, row_found}
 
 -- the line of the usage text is that of the command as built
 pub record IsLineOf (s : Shape) (l : Line) : Type 0 where
   pub options : Each (IsOption s) l.options
   pub names : ArePositional s 1 l.names
-  pub apart : AreApart l.names
-  pub others : Each (λ o. IsApart o.id l.names) l.options
-  pub covered : Each (λ n. is_named n.id l.names ≡ true) l.names
-  pub listed_names : Each (IsListed l) l.names
-  pub listed_options : Each (IsListed l) l.options
-  pub defaults : Each (λ (a : Rule). cond (is_empty a.defaults) [] (given_default_fault a a.defaults) ≡ []) s.rules
-  pub required : Each (λ (a : Rule). (a.required && not (is_named a.id l.names)) ≡ false) s.rules
+  pub distinct : are_distinct (λ (n : Argument). n.id) (l.names ++ l.options) ≡ true
+  pub defaults : list_all (λ (a : Rule). is_empty a.defaults || are_none (given_default_fault a a.defaults)) s.rules ≡ true
+  pub required : list_all (λ (a : Rule). not a.required || is_named a.id l.names) s.rules ≡ true
   pub no_help : s.arg_required_else_help ≡ false
   pub no_subcommand : s.subcommand_required ≡ false
   pub negates : s.subcommand_negates_reqs ≡ false
@@ -43,15 +42,22 @@ nothing_given : (ns : List Argument) → AreToCome ns []
 nothing_given [] = tt
 nothing_given (n ∷ ns) = (refl, nothing_given ns)
 
-pub defaults_fine : (xs : List Rule) (rows : List Row) → Each (λ (a : Rule). cond (is_empty a.defaults) [] (given_default_fault a a.defaults) ≡ []) xs → defaults_fault rows xs ≡ []
+no_kind : (ks : Kinds) → are_none ks ≡ true → ks ≡ []
+no_kind [] e = refl
+no_kind (k ∷ ks) e = cc
+
+defaults_fine : (xs : List Rule) (rows : List Row) → list_all (λ (a : Rule). is_empty a.defaults || are_none (given_default_fault a a.defaults)) xs ≡ true → defaults_fault rows xs ≡ []
 unfolding defaults_fault
 defaults_fine [] rows h = refl
-defaults_fine (a ∷ xs) rows h = go (has_row a.id rows) (is_empty a.defaults) h.0 (defaults_fine xs (with_default rows a) h.1)
+defaults_fine (a ∷ xs) rows h =
+    let q = both (is_empty a.defaults || are_none (given_default_fault a a.defaults)) _ h in
+    go (has_row a.id rows) (is_empty a.defaults) q.0 (defaults_fine xs (with_default rows a) q.1)
   where
-    go : (b d : Bool) → cond d [] (given_default_fault a a.defaults) ≡ [] → defaults_fault (with_default rows a) xs ≡ []
+    go : (b d : Bool) → (d || are_none (given_default_fault a a.defaults)) ≡ true → defaults_fault (with_default rows a) xs ≡ []
         → or_else (cond (b || d) [] (given_default_fault a a.defaults)) (defaults_fault (with_default rows a) xs) ≡ []
     go true d e more = more
-    go false d e more = rw e more
+    go false true e more = more
+    go false false e more = let none = no_kind (given_default_fault a a.defaults) e in rw none more
 
 named_given : (id : Text) (ns : List Argument) (given : List Given) → Each (λ n. is_covered n.id given [] ≡ true) ns → is_named id ns ≡ true → is_given id given ≡ true
 named_given id [] given h e = cc
@@ -78,15 +84,17 @@ given_found c id (g ∷ gs) other e = go (bytes_eq g.id id) e (λ more. given_fo
 abbrev pub end_rows : List Rule → List Given → List Row
 end_rows c given = fold with_default (given_rows c given) c
 
-none_missing : (c xs : List Rule) (names : List Argument) (given : List Given) → Each (λ n. is_covered n.id given [] ≡ true) names → Each (λ (a : Rule). (a.required && not (is_named a.id names)) ≡ false) xs
+none_missing : (c xs : List Rule) (names : List Argument) (given : List Given) → Each (λ n. is_covered n.id given [] ≡ true) names → list_all (λ (a : Rule). not a.required || is_named a.id names) xs ≡ true
     → list_any (λ (a : Rule). a.required && not (is_in a.id (end_rows c given))) xs ≡ false
 none_missing c [] names given covered h = refl
-none_missing c (a ∷ xs) names given covered h = go a.required (is_named a.id names) refl h.0 (none_missing c xs names given covered h.1)
+none_missing c (a ∷ xs) names given covered h =
+    let q = both (not a.required || is_named a.id names) _ h in
+    go a.required (is_named a.id names) refl q.0 (none_missing c xs names given covered q.1)
   where
     there : is_named a.id names ≡ true → is_in a.id (end_rows c given) ≡ true
     there e = ap (λ (o : Option Row). option_map_or (λ r. explicit_source r.source) o false) (row_found c a.id given) ∙ given_found c a.id given _ (named_given a.id names given covered e)
 
-    go : (required b : Bool) → is_named a.id names ≡ b → (required && not b) ≡ false → list_any (λ (x : Rule). x.required && not (is_in x.id (end_rows c given))) xs ≡ false
+    go : (required b : Bool) → is_named a.id names ≡ b → (not required || b) ≡ true → list_any (λ (x : Rule). x.required && not (is_in x.id (end_rows c given))) xs ≡ false
         → ((required && not (is_in a.id (end_rows c given))) || list_any (λ (x : Rule). x.required && not (is_in x.id (end_rows c given))) xs) ≡ false
     go false b is q more = more
     go true true is q more = rw (there is) more
@@ -118,11 +126,12 @@ module _ (s : Shape) (l : Line) (fit : IsLineOf s l) (words : List Text) where
           let q = completed end.due end.names end.given given h in
           let stands : Stands s l.options start 1 [] None = record {
             held = record { fine = refl; kept = refl };
-            ahead = record { at = fit.names; to_come = nothing_given l.names; apart = fit.apart; others = fit.others };
+            ahead = record { at = fit.names; to_come = nothing_given l.names; apart = front_apart l.names l.options fit.distinct; others = back_apart l.names l.options fit.distinct };
           } in
           let reached = plain_walk s l.options fit.options words start end 1 [] None stands is in
-          let first : IsOn l start = record { good = tt; covered = fit.covered; names = fit.listed_names; due = refl } in
-          let on = all_on l fit.listed_options words start end first is in
+          let listed : Each (IsListed l) (l.names ++ l.options) = found_by_id (λ (n : Argument). n.id) (l.names ++ l.options) fit.distinct in
+          let first : IsOn l start = record { good = tt; covered = named_by_id l.names; names = each_front (IsListed l) l.names l.options listed; due = refl } in
+          let on = all_on l (each_back (IsListed l) l.names l.options listed) words start end first is in
           let p = reached.position in
           let rows = reached.rows in
           let pending = reached.pending in

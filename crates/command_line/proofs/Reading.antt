@@ -5,6 +5,7 @@ use Rattle.std.specs.Option.{option_map_or}
 use Rattle.clap.specs.Walk.{Text}
 use Rattle.command_line.specs.App.{Argument, Line, Value, Flag, Name, Number}
 use Rattle.command_line.specs.Plain.{Given, Reading, due_read, is_given, is_value, name_read, option_read, read_all, step, word_read, word_of}
+use Rattle.command_line.proofs.Distinct.{each_weaker, itself}
 use Rattle.command_line.proofs.Rows.{Each, each_found, each_more}
 
 -- the argument of a line with an id
@@ -25,6 +26,17 @@ is_named id names = list_any (λ n. bytes_eq n.id id) names
 -- an id is given already, or it is that of a name that is still to come
 abbrev pub is_covered : Text → List Given → List Argument → Bool
 is_covered id given names = is_given id given || is_named id names
+
+-- each is named among them
+pub named_by_id : (xs : List Argument) → Each (λ n. is_named n.id xs ≡ true) xs
+named_by_id [] = tt
+named_by_id (x ∷ xs) =
+    let first = itself x.id in
+    (rw first refl, each_weaker (λ n. is_named n.id xs ≡ true) (λ n. is_named n.id (x ∷ xs) ≡ true) xs (λ n e. or_true (bytes_eq x.id n.id) (is_named n.id xs) e) (named_by_id xs))
+  where
+    or_true : (a b : Bool) → b ≡ true → (a || b) ≡ true
+    or_true true b e = refl
+    or_true false b e = e
 
 given_more : (id : Text) (given : List Given) (g : Given) → is_given id (given ++ g ∷ []) ≡ (is_given id given || bytes_eq g.id id)
 given_more id [] g = or_none (bytes_eq g.id id)

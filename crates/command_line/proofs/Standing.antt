@@ -7,7 +7,9 @@ use Rattle.clap.specs.Faults.{react_fault, settle_fault, turn_fault}
 use Rattle.clap.specs.Walk.{Row, Rule, Text, Walk, arg_by_index, settled_rows, used, walked}
 use Rattle.command_line.specs.App.{Argument, Value, Flag}
 use Rattle.command_line.specs.Plain.{Given, Reading, is_given, word_of}
+use Rattle.clap.proofs.WalkLemmas.{both}
 use Rattle.command_line.proofs.Rows.{Each}
+use Rattle.command_line.proofs.Distinct.{apart_of, are_distinct, each_back, each_both, each_front, each_weaker, is_apart, other_way}
 use Rattle.command_line.proofs.Uses.{IsSetter, IsTaker, given_rows}
 use Rattle.command_line.proofs.Turns.{IsSettled, awaiting, held, resting}
 
@@ -52,6 +54,26 @@ IsApart id ns = Each (λ n. bytes_eq id n.id ≡ false) ns
 abbrev pub AreApart : List Argument → Type 0
 AreApart [] = Unit {0}
 AreApart (n ∷ ns) = IsApart n.id ns × AreApart ns
+
+-- the first of them are apart
+pub front_apart : (xs ys : List Argument) → are_distinct (λ n. n.id) (xs ++ ys) ≡ true → AreApart xs
+front_apart [] ys h = tt
+front_apart (x ∷ xs) ys h =
+    let q = both (is_apart (λ n. n.id) x.id (xs ++ ys)) (are_distinct (λ n. n.id) (xs ++ ys)) h in
+    (each_front (λ n. bytes_eq x.id n.id ≡ false) xs ys (apart_of (λ n. n.id) x.id (xs ++ ys) q.0), front_apart xs ys q.1)
+
+nothing_to_show : (ys : List Argument) → Each (λ (y : Argument). Unit {0}) ys
+nothing_to_show [] = tt
+nothing_to_show (y ∷ ys) = (tt, nothing_to_show ys)
+
+-- and the others apart from these
+pub back_apart : (xs ys : List Argument) → are_distinct (λ n. n.id) (xs ++ ys) ≡ true → Each (λ y. IsApart y.id xs) ys
+back_apart [] ys h = nothing_to_show ys
+back_apart (x ∷ xs) ys h =
+    let q = both (is_apart (λ n. n.id) x.id (xs ++ ys)) (are_distinct (λ n. n.id) (xs ++ ys)) h in
+    let apart = each_back (λ n. bytes_eq x.id n.id ≡ false) xs ys (apart_of (λ n. n.id) x.id (xs ++ ys) q.0) in
+    let turned = each_weaker (λ n. bytes_eq x.id n.id ≡ false) (λ n. bytes_eq n.id x.id ≡ false) ys (λ n e. other_way x.id n.id e) apart in
+    each_both (λ y. bytes_eq y.id x.id ≡ false) (λ y. IsApart y.id xs) ys turned (back_apart xs ys q.1)
 
 -- ---- the names that are still to come
 

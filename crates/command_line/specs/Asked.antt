@@ -87,14 +87,23 @@ pub record Values : Type 0 where
   pub number : List ℕ → ℕ → Option ℕ
   pub flag : List ℕ → Bool
 
-abbrev pub check_from : Option (List ℕ) → Option (List ℕ) → Option ℕ → Option ℕ → Bool → Bool → Option (List ℕ) → Option (List ℕ) → Option Asked
-check_from (Some left) (Some right) (Some k) (Some workers) classes stats trace cert =
-    Some (ForCheck (record { left = left; right = right; k = k; workers = workers; classes = classes; stats = stats; trace = trace; cert = cert }))
-check_from left right k workers classes stats trace cert = None
+-- both names and both numbers are there
+abbrev pub check_from : Option (List ℕ) → Option (List ℕ) → Option ℕ → Option ℕ → (List ℕ → List ℕ → ℕ → ℕ → CheckAsked) → Option Asked
+check_from (Some left) (Some right) (Some k) (Some workers) asked = Some (ForCheck (asked left right k workers))
+check_from left right k workers asked = None
 
 -- what the values of `check` ask for
 abbrev pub check_of : Values → Option Asked
-check_of v = check_from (v.text (codes "LEFT")) (v.text (codes "RIGHT")) (v.number (codes "k") most_depth) (v.number (codes "j") most_workers) (v.flag (codes "classes")) (v.flag (codes "stats")) (v.text (codes "trace")) (v.text (codes "cert"))
+check_of v = check_from (v.text (codes "LEFT")) (v.text (codes "RIGHT")) (v.number (codes "k") most_depth) (v.number (codes "j") most_workers) (λ left right k workers. record {
+  left = left;
+  right = right;
+  k = k;
+  workers = workers;
+  classes = v.flag (codes "classes");
+  stats = v.flag (codes "stats");
+  trace = v.text (codes "trace");
+  cert = v.text (codes "cert");
+})
 
 abbrev pub replay_from : Option (List ℕ) → Option (List ℕ) → Option (List ℕ) → Option Asked
 replay_from (Some left) (Some right) (Some trace) = Some (ForReplay (record { left = left; right = right; trace = trace }))
