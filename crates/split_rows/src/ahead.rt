@@ -119,15 +119,21 @@ impl<'p> SplitRows<'p> {
         draw_reset(alloc, &mut sim, &mut stimulus)?;
         let mut inputs = vec![in alloc; 0u64; product.inputs() as usize]?;
         self.run_while(alloc, &mut sim, &mut stimulus, inputs.as_mut_slice())?;
-        let last = next_rows(
-            alloc,
-            product,
-            k,
-            &mut sim,
-            &mut stimulus,
-            inputs.as_mut_slice(),
-        )?;
-        self.reached = latch_words(alloc, product, last.words())?;
+        for t in 0..k {
+            let rows = next_rows(
+                alloc,
+                product,
+                k,
+                &mut sim,
+                &mut stimulus,
+                inputs.as_mut_slice(),
+            )?;
+            if t == 0 {
+                self.reached = latch_words(alloc, product, rows.words())?;
+            }
+            self.steered.extend_from_slice(inputs.as_slice())?;
+            self.take(alloc, rows)?;
+        }
         Ok(())
     }
 }

@@ -4,7 +4,7 @@ ghost use Rattle.circ_model.specs.Meaning.{latches_of, places_of};
 ghost use Rattle.class_partition.specs.Classes.{KeepsGreatest};
 
 use crate::rows::SplitRows;
-use crate::words::{drawn_among, lay};
+use crate::words::{agree, drawn_among, lay};
 use class_partition::Classes;
 use pair_sweep::FreeBit;
 use std::alloc::{AllocError, Global};
@@ -81,6 +81,13 @@ impl<'p> SplitRows<'p> {
         let mut inputs = vec![in alloc; 0u64; (self.k as usize + 1) * each]?;
         self.draw(start.as_mut_slice(), inputs.as_mut_slice());
         lay(bits, start.as_mut_slice(), inputs.as_mut_slice(), each);
+        agree(
+            alloc,
+            product,
+            classes,
+            inputs.as_slice(),
+            start.as_mut_slice(),
+        )?;
         let mut lanes = StepLanes::new(alloc, product, self.k, classes, start.as_slice())?;
         step_frames(&mut lanes, inputs.as_slice(), self.k + 1);
         self.take_step(alloc, &lanes)?;

@@ -24,8 +24,9 @@ pub struct SplitRows<'p> {
     // what the blocks leave of the classes that are refined: a hint
     pub(crate) left: Option<Classes>,
     pub(crate) stimulus: Stimulus,
-    // states of runs, from which models are filled in
+    // a state of each run, and the inputs from there on, from which models are filled in
     pub(crate) reached: Vec<u64>,
+    pub(crate) steered: Vec<u64>,
     pub(crate) is_ahead: bool,
 }
 
@@ -71,6 +72,7 @@ impl<'p> SplitRows<'p> {
             left: None,
             stimulus: Stimulus::new(2),
             reached: Vec::new(alloc),
+            steered: Vec::new(alloc),
             is_ahead: false,
         }
     }

@@ -1,6 +1,7 @@
 //! Words of blocks and of paths. No fact rests on which bits are drawn.
 ghost use Rattle.std.specs.Prelude.{◌≡◌, ◌<◌, length};
 
+use circ_model::Lit;
 use class_partition::Classes;
 use frame_graph::Leaf;
 use pair_sweep::FreeBit;
@@ -85,4 +86,73 @@ pub(crate) fn drawn_among(reached: &[u64], start: &mut [u64])
     for j in 0..start.len().min(reached.len()) {
         start[j] = (reached[j] & LOW) | (start[j] & !LOW);
     }
+}
+
+// The word at a position; past the end zeros.
+fn word_at(words: &[u64], at: usize) -> u64 {
+    if at < words.len() { words[at] } else { 0 }
+}
+
+// The word of a literal.
+fn literal_word(words: &[u64], lit: Lit) -> u64 {
+    let word = word_at(words, lit.var() as usize);
+    if lit.is_complement() { !word } else { word }
+}
+
+// The word with which a latch starts: that of its class's least place, at their relative phase, where that is an earlier one, and
+// else its own.
+fn start_word(classes: &Classes, words: &[u64], place: usize, own: u64) -> u64 {
+    if place >= classes.len() as usize {
+        return own;
+    }
+    let p = place as u32;
+    let rep = classes.rep(p);
+    if rep >= p {
+        return own;
+    }
+    let word = word_at(words, rep as usize);
+    if classes.phase(rep) == classes.phase(p) {
+        word
+    } else {
+        !word
+    }
+}
+
+// Has each latch start as its class's least place, as the frames are mapped that a model is of: a word for each place of the first
+// frame is made in the order of the places.
+pub(crate) fn agree(
+    alloc: Global,
+    product: &Product,
+    classes: &Classes,
+    inputs: &[u64],
+    start: &mut [u64],
+) -> Result<(), AllocError>
+    ensures { length start.new ≡ length start.old }
+{
+    let cells = product.cells();
+    let mut words = Vec::with_capacity(alloc, cells.len())?;
+    let mut given: usize = 0;
+    let mut held: usize = 0;
+    for p in 0..cells.len() {
+        let word = match cells[p] {
+            Cell::Low => 0,
+            Cell::Given => {
+                given = given.saturating_add(1);
+                word_at(inputs, given - 1)
+            }
+            Cell::Held(_, _) => {
+                let word = start_word(classes, words.as_slice(), p, word_at(start, held));
+                if held < start.len() {
+                    start[held] = word;
+                    held += 1;
+                }
+                word
+            }
+            Cell::Product(left, right) => {
+                literal_word(words.as_slice(), left) & literal_word(words.as_slice(), right)
+            }
+        };
+        words.push(word)?;
+    }
+    Ok(())
 }
