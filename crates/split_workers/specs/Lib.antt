@@ -3,3 +3,4 @@ pub mod Seats
 pub mod Desks
 pub mod Refined
 pub mod Reports
+pub mod Benches

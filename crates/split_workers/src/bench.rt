@@ -1,11 +1,15 @@
 //! What a worker proves pairs with: the frames of a published version. They are made anew where the worker is given a pair of
 //! another version; that they fit an offer is seen from two indices.
-ghost use Rattle.std.specs.Prelude.{◌≡◌, IfOk, IfSome};
+ghost use Rattle.std.specs.Prelude.{◌≡◌, IfOk};
+ghost use Rattle.circ_model.specs.Meaning.{places_of};
+ghost use Rattle.class_partition.specs.Classes.{IsNeeded, least_of};
 ghost use Rattle.boxcar.specs.Table.{Shows};
+ghost use Rattle.verdict_stamp.specs.Proofs.{IsProof};
 
+use class_partition::Needed;
 use std::alloc::{AllocError, Global};
 use std::marker::Model;
-use verdict_stamp::{Prover, Stamp, Versions};
+use verdict_stamp::{Proof, Prover, Stamp, Version, Versions};
 
 /// The frames of a version, and its stamp.
 #[derive(Drop)]
@@ -26,6 +30,48 @@ impl<'v, 'p> Model for Bench<'v, 'p> {
 }
 
 impl<'v, 'p> Bench<'v, 'p> {
+    /// The bench of a version, with nothing proved before.
+    pub(crate) fn new(
+        alloc: Global,
+        versions: &'v Versions<'p>,
+        stamp: &Stamp<'p>,
+    ) -> Result<Bench<'v, 'p>, AllocError>
+        requires listed { Shows versions.now stamp.now }
+        ensures listed { IfOk result (λ b. Shows versions.now b) }
+        ensures version { IfOk result (λ b. b.value ≡ stamp.now.value) }
+    {
+        let prover = Prover::new(alloc, versions.at(stamp))?;
+        Ok(Bench {
+            stamp: stamp.copy(),
+            prover,
+        })
+    }
+
+    /// The bench of a version of the same pair and k: this one, where it is of this version, or else one that goes on with what
+    /// was proved here.
+    pub(crate) fn turned_to(
+        self,
+        versions: &'v Versions<'p>,
+        stamp: &Stamp<'p>,
+    ) -> Result<Bench<'v, 'p>, AllocError>
+        requires own { Shows versions.now self }
+        requires listed { Shows versions.now stamp.now }
+        requires pair { self.value.pair ≡ stamp.now.value.pair }
+        requires k { self.value.k ≡ stamp.now.value.k }
+        ensures listed { IfOk result (λ b. Shows versions.now b) }
+        ensures version { IfOk result (λ b. b.value ≡ stamp.now.value) }
+    {
+        if versions.same(self.stamp(), stamp) {
+            return Ok(self);
+        }
+        let Bench { prover, .. } = self;
+        let prover = Prover::over(prover.into_memory(), versions.at(stamp))?;
+        Ok(Bench {
+            stamp: stamp.copy(),
+            prover,
+        })
+    }
+
     /// The stamp of the version.
     pub(crate) fn stamp(&self) -> &Stamp<'p>
         ensures { result.now ≡ self.entry.now }
@@ -33,35 +79,20 @@ impl<'v, 'p> Bench<'v, 'p> {
         &self.stamp
     }
 
-    /// The prover of its pairs.
-    pub(crate) fn prover(&self) -> &Prover<'v, 'p>
-        ensures { result.now ≡ self.entry.now.value }
+    /// The version.
+    pub(crate) fn version(&self) -> &'v Version<'p>
+        ensures { result.now ≡ self.now.value }
     {
-        &self.prover
+        self.prover.version()
     }
-}
 
-/// The bench of a version: the one that the worker has, where that is of this version, and else a new one. The old frames are
-/// freed before the new ones are made.
-pub(crate) fn bench_of<'v, 'p>(
-    alloc: Global,
-    versions: &'v Versions<'p>,
-    old: Option<Bench<'v, 'p>>,
-    stamp: &Stamp<'p>,
-) -> Result<Bench<'v, 'p>, AllocError>
-    requires listed { Shows versions.now stamp.now }
-    requires old { IfSome old (λ b. Shows versions.now b) }
-    ensures listed { IfOk result (λ b. Shows versions.now b) }
-    ensures version { IfOk result (λ b. b.value ≡ stamp.now.value) }
-{
-    if let Some(bench) = old {
-        if versions.same(bench.stamp(), stamp) {
-            return Ok(bench);
-        }
+    /// Proves a pair of its version.
+    pub(crate) fn prove(&mut self, alloc: Global, pair: Needed) -> Result<Proof<'v, 'p>, AllocError>
+        requires needed { IsNeeded (places_of self.old.value.pair) self.old.value.classes pair.member }
+        requires rep { pair.rep ≡ least_of self.old.value.classes pair.member }
+        ensures kept { self.new ≡ self.old }
+        ensures proof { IfOk result (IsProof self.old.value pair.member) }
+    {
+        self.prover.prove(alloc, pair)
     }
-    let prover = Prover::new(alloc, versions.at(stamp))?;
-    Ok(Bench {
-        stamp: stamp.copy(),
-        prover,
-    })
 }

@@ -1,11 +1,11 @@
 //! What lies under the lock of a run: its board, what the ends of its workers say of it, and whether memory ran out.
 ghost use Rattle.std.specs.Prelude.{◌≡◌, ◌<◌, ◌≤◌, ◌+◌, ◌*◌, ◌^◌, [], true, length, IfSome};
-ghost use Rattle.boxcar.specs.Table.{Shows};
 ghost use Rattle.circ_model.specs.Meaning.{places_of};
 ghost use Rattle.class_partition.specs.Classes.{AreOfGreatest};
 ghost use Rattle.refine_board.specs.States.{AllCounted};
 ghost use Rattle.refine_board.specs.Running.{IsAbout, IsOf};
 ghost use Rattle.verdict_stamp.specs.Published.{IsStampOf};
+ghost use Rattle.split_workers.specs.Benches.{IsBenchOf};
 ghost use Rattle.split_workers.specs.Seats.{HaveEnded, OwesLess, no_totals};
 ghost use Rattle.split_workers.specs.Desks.{IsAskedOf, IsOutcome, held};
 
@@ -52,7 +52,7 @@ impl<'v, 'p, L: Run, E: Ledger, O: Ledger> Model for Desk<'v, 'p, L, E, O> {
 
 // Whether the board's version is the one of a worker's bench.
 fn stands_at<'v, 'p, L: Run>(board: &Board<'v, 'p, L>, bench: &Option<Bench<'v, 'p>>) -> bool
-    requires { IfSome bench.now (λ b. Shows L.list b) }
+    requires { IfSome bench.now (IsBenchOf L.list L.pair L.k) }
 {
     match bench {
         Some(bench) => board.is_stamped(bench.stamp()),
@@ -105,7 +105,7 @@ impl<'v, 'p, L: Run, E: Ledger, O: Ledger> Desk<'v, 'p, L, E, O> {
     ) -> Asked<'p, L>
         requires party { seat.old.party < L.workers }
         requires working { seat.old.ended ≡ 0 }
-        requires bench { IfSome bench.now (λ b. Shows L.list b) }
+        requires bench { IfSome bench.now (IsBenchOf L.list L.pair L.k) }
         ensures { IsAskedOf seat.old seat.new result }
     {
         let Desk {

@@ -4,19 +4,20 @@ ghost use Rattle.std.specs.Prelude.{◌≡◌, ◌≢◌, ◌<◌, ◌+◌, [], 
 ghost use Rattle.boxcar.specs.Table.{Shows};
 ghost use Rattle.refine_board.specs.Running.{IsAbout, IsAsked, IsOf};
 ghost use Rattle.verdict_stamp.specs.Published.{IsStampOf};
+ghost use Rattle.split_workers.specs.Benches.{IsBenchOf};
 ghost use Rattle.split_workers.specs.Seats.{HasEnded, HaveEnded, OwesLess, AreHeld};
 ghost use Rattle.split_workers.specs.Desks.{IsAskedOf, IsOutcome};
 
-use crate::bench::{Bench, bench_of};
+use crate::bench::Bench;
 use crate::desk::{Asked, Desk};
 use crate::found::{Found, held_apart};
 use crate::seat::Seat;
 use refine_board::{Journal, Offer, Run};
 use sec_base::Gate;
-use std::alloc::Global;
+use std::alloc::{AllocError, Global};
 use std::sync::ledger::Ledger;
 use std::sync::{Condvar, Mutex, Wait};
-use verdict_stamp::{Proof, Stamp, Vector, Verdict, Version, Versions, Workspaces};
+use verdict_stamp::{Proof, Stamp, Vector, Verdict, Version, Versions};
 
 /// What the workers share: the locked desk, the bell that wakes those who wait for work, and the published versions, which
 /// are read without the lock.
@@ -64,7 +65,7 @@ impl<'v, 'p, L: Run, E: Ledger, O: Ledger> Room<'v, 'p, L, E, O> {
     ) -> Asked<'p, L>
         requires party { seat.old.party < L.workers }
         requires working { seat.old.ended ≡ 0 }
-        requires bench { IfSome bench.now (λ b. Shows L.list b) }
+        requires bench { IfSome bench.now (IsBenchOf L.list L.pair L.k) }
         ensures { IsAskedOf seat.old seat.new result }
     {
         let party = seat.party();
@@ -206,8 +207,7 @@ impl<'v, 'p, L: Run, E: Ledger, O: Ledger> Room<'v, 'p, L, E, O> {
         gate: &G,
         party: u32,
         call: &mut u64,
-        bench: &Bench<'v, 'p>,
-        memory: &mut Workspaces,
+        bench: &mut Bench<'v, 'p>,
         seat: &mut Seat<E, O>,
         pocket: &mut Vec<Found<'p, L>>,
         offer: Offer<'p, L>,
@@ -215,10 +215,11 @@ impl<'v, 'p, L: Run, E: Ledger, O: Ledger> Room<'v, 'p, L, E, O> {
         requires party { (offer.party ≡ party) × (party < L.workers) }
         requires seat { (seat.old.party ≡ party) × (seat.old.ended ≡ 0) × (seat.old.owed ≡ length pocket.old.items + 1) }
         requires held { AreHeld party pocket.old.items }
-        requires listed { Shows L.list bench.now }
-        requires asked { IsAsked bench.now.value offer.pair }
-        requires product { bench.now.value.pair ≡ L.pair }
-        requires k { bench.now.value.k ≡ L.k }
+        requires listed { Shows L.list bench.old }
+        requires asked { IsAsked bench.old.value offer.pair }
+        requires product { bench.old.value.pair ≡ L.pair }
+        requires k { bench.old.value.k ≡ L.k }
+        ensures bench { bench.new ≡ bench.old }
         ensures going { result ≢ Turn.Ended }
         ensures seat { (seat.new.party ≡ party) × (seat.new.ended ≡ 0) × (seat.new.owed ≡ length pocket.new.items) }
         ensures held { AreHeld party pocket.new.items }
@@ -227,7 +228,7 @@ impl<'v, 'p, L: Run, E: Ledger, O: Ledger> Room<'v, 'p, L, E, O> {
             self.give_back(rt, gate, next_call(call), seat, offer);
             return Turn::Stopped;
         }
-        match bench.prover().prove_in(alloc, memory, offer.pair()) {
+        match bench.prove(alloc, offer.pair()) {
             Ok(Proof::Holds(verdict)) => self.keep(
                 rt,
                 gate,
@@ -282,8 +283,7 @@ impl<'v, 'p, L: Run, E: Ledger, O: Ledger> Room<'v, 'p, L, E, O> {
         gate: &G,
         party: u32,
         call: &mut u64,
-        bench: &Bench<'v, 'p>,
-        memory: &mut Workspaces,
+        bench: &mut Bench<'v, 'p>,
         seat: &mut Seat<E, O>,
         pocket: &mut Vec<Found<'p, L>>,
         offer: Offer<'p, L>,
@@ -291,24 +291,41 @@ impl<'v, 'p, L: Run, E: Ledger, O: Ledger> Room<'v, 'p, L, E, O> {
         requires party { (offer.party ≡ party) × (party < L.workers) }
         requires seat { (seat.old.party ≡ party) × (seat.old.ended ≡ 0) × (seat.old.owed ≡ length pocket.old.items + 1) }
         requires held { AreHeld party pocket.old.items }
-        requires listed { Shows L.list bench.now }
-        requires asked { IsAsked bench.now.value offer.pair }
-        requires product { bench.now.value.pair ≡ L.pair }
-        requires k { bench.now.value.k ≡ L.k }
+        requires listed { Shows L.list bench.old }
+        requires asked { IsAsked bench.old.value offer.pair }
+        requires product { bench.old.value.pair ≡ L.pair }
+        requires k { bench.old.value.k ≡ L.k }
+        ensures bench { bench.new ≡ bench.old }
         ensures going { result ≢ Turn.Ended }
         ensures seat { (seat.new.party ≡ party) × (seat.new.ended ≡ 0) × (seat.new.owed ≡ length pocket.new.items) }
         ensures held { AreHeld party pocket.new.items }
     {
-        let classes = bench.prover().version().classes();
+        let classes = bench.version().classes();
         match held_apart(alloc, pocket.as_slice(), classes, offer.pair()) {
             Ok(Some(vector)) => self.hold(rt, gate, party, call, seat, pocket, offer, vector),
-            Ok(None) => self.prove_at(
-                rt, alloc, gate, party, call, bench, memory, seat, pocket, offer,
-            ),
+            Ok(None) => self.prove_at(rt, alloc, gate, party, call, bench, seat, pocket, offer),
             Err(_) => {
                 self.give_back(rt, gate, next_call(call), seat, offer);
                 Turn::Stopped
             }
+        }
+    }
+
+    // The bench of a version: the one that the worker has, turned to it, or a new one.
+    fn bench_for(
+        &self,
+        alloc: Global,
+        old: Option<Bench<'v, 'p>>,
+        stamp: &Stamp<'p>,
+    ) -> Result<Bench<'v, 'p>, AllocError>
+        requires old { IfSome old (IsBenchOf L.list L.pair L.k) }
+        requires listed { IsBenchOf L.list L.pair L.k stamp.now }
+        ensures listed { IfOk result (λ b. Shows L.list b) }
+        ensures version { IfOk result (λ b. b.value ≡ stamp.now.value) }
+    {
+        match old {
+            Some(bench) => bench.turned_to(self.versions, stamp),
+            None => Bench::new(alloc, self.versions, stamp),
         }
     }
 
@@ -321,7 +338,6 @@ impl<'v, 'p, L: Run, E: Ledger, O: Ledger> Room<'v, 'p, L, E, O> {
         party: u32,
         call: &mut u64,
         bench: &mut Option<Bench<'v, 'p>>,
-        memory: &mut Workspaces,
         seat: &mut Seat<E, O>,
         pocket: &mut Vec<Found<'p, L>>,
         offer: Offer<'p, L>,
@@ -329,18 +345,16 @@ impl<'v, 'p, L: Run, E: Ledger, O: Ledger> Room<'v, 'p, L, E, O> {
         requires party { (offer.party ≡ party) × (party < L.workers) }
         requires seat { (seat.old.party ≡ party) × (seat.old.ended ≡ 0) × (seat.old.owed ≡ length pocket.old.items + 1) }
         requires held { AreHeld party pocket.old.items }
-        requires bench { IfSome bench.old (λ b. Shows L.list b) }
+        requires bench { IfSome bench.old (IsBenchOf L.list L.pair L.k) }
         ensures going { result ≢ Turn.Ended }
         ensures seat { (seat.new.party ≡ party) × (seat.new.ended ≡ 0) × (seat.new.owed ≡ length pocket.new.items) }
         ensures held { AreHeld party pocket.new.items }
-        ensures bench { IfSome bench.new (λ b. Shows L.list b) }
+        ensures bench { IfSome bench.new (IsBenchOf L.list L.pair L.k) }
     {
         gate.works(party, last_call(*call));
-        match bench_of(alloc, self.versions, bench.take(), offer.stamp()) {
-            Ok(at) => {
-                let turn = self.answer(
-                    rt, alloc, gate, party, call, &at, memory, seat, pocket, offer,
-                );
+        match self.bench_for(alloc, bench.take(), offer.stamp()) {
+            Ok(mut at) => {
+                let turn = self.answer(rt, alloc, gate, party, call, &mut at, seat, pocket, offer);
                 *bench = Some(at);
                 turn
             }
@@ -361,15 +375,14 @@ impl<'v, 'p, L: Run, E: Ledger, O: Ledger> Room<'v, 'p, L, E, O> {
         party: u32,
         call: &mut u64,
         bench: &mut Option<Bench<'v, 'p>>,
-        memory: &mut Workspaces,
         seat: &mut Seat<E, O>,
         pocket: &mut Vec<Found<'p, L>>,
     ) -> Turn
         requires party { party < L.workers }
         requires seat { (seat.old.party ≡ party) × (seat.old.ended ≡ 0) × (seat.old.owed ≡ length pocket.old.items) }
         requires held { AreHeld party pocket.old.items }
-        requires bench { IfSome bench.old (λ b. Shows L.list b) }
-        ensures bench { IfSome bench.new (λ b. Shows L.list b) }
+        requires bench { IfSome bench.old (IsBenchOf L.list L.pair L.k) }
+        ensures bench { IfSome bench.new (IsBenchOf L.list L.pair L.k) }
         ensures seat { result ≢ Turn.Ended → (seat.new.party ≡ party) × (seat.new.ended ≡ 0) × (seat.new.owed ≡ length pocket.new.items) }
         ensures held { result ≢ Turn.Ended → AreHeld party pocket.new.items }
         ensures ended { result ≡ Turn.Ended → HasEnded party seat.new }
@@ -378,9 +391,7 @@ impl<'v, 'p, L: Run, E: Ledger, O: Ledger> Room<'v, 'p, L, E, O> {
         let holding = pocket.len() > 0;
         match self.ask(rt, gate, number, seat, bench, holding) {
             Asked::Work(offer) => {
-                self.prove(
-                    rt, alloc, gate, party, call, bench, memory, seat, pocket, offer,
-                )
+                self.prove(rt, alloc, gate, party, call, bench, seat, pocket, offer)
             }
             Asked::Idle | Asked::Moved => {
                 if holding {
@@ -444,7 +455,6 @@ pub(crate) fn work<'v, 'p, L: Run, E: Ledger, O: Ledger, G: Gate>(
 {
     let party = seat.party();
     let mut bench = None;
-    let mut memory = Workspaces::new();
     let mut pocket = Vec::new(alloc);
     let mut call: u64 = 0;
     for _turn in rt.forever() {
@@ -455,7 +465,6 @@ pub(crate) fn work<'v, 'p, L: Run, E: Ledger, O: Ledger, G: Gate>(
             party,
             &mut call,
             &mut bench,
-            &mut memory,
             seat,
             &mut pocket,
         ) {
