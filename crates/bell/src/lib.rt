@@ -2,6 +2,9 @@
 //! one don't hear of. (A monitor whose signal can't be forgotten: Hoare, Communications of the ACM 17(10), 1974.)
 #![tactic(auto)]
 
+#[cfg(test)]
+mod tests;
+
 use std::sync::{Condvar, Mutex, MutexGuard, Wait};
 
 /// A value that one thread at a time has, and the bell.
