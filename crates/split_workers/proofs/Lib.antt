@@ -1,3 +1,5 @@
 mod Ends
 mod Steps
 mod Reported
+pub mod Finds
+mod Held

@@ -4,3 +4,4 @@ pub mod Desks
 pub mod Refined
 pub mod Reports
 pub mod Benches
+pub mod Workers

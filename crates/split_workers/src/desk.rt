@@ -4,7 +4,6 @@ ghost use Rattle.circ_model.specs.Meaning.{places_of};
 ghost use Rattle.class_partition.specs.Classes.{AreOfGreatest};
 ghost use Rattle.refine_board.specs.States.{AllCounted};
 ghost use Rattle.refine_board.specs.Running.{IsAbout, IsOf};
-ghost use Rattle.verdict_stamp.specs.Published.{IsStampOf};
 ghost use Rattle.split_workers.specs.Benches.{IsBenchOf};
 ghost use Rattle.split_workers.specs.Seats.{HaveEnded, OwesLess, no_totals};
 ghost use Rattle.split_workers.specs.Desks.{IsAskedOf, IsOutcome, held};
@@ -15,7 +14,7 @@ use refine_board::{Board, Journal, Offer, Run, Take};
 use std::marker::Model;
 use std::sync::Wait;
 use std::sync::ledger::Ledger;
-use verdict_stamp::{Stamp, Vector, Verdict, Version};
+use verdict_stamp::{Vector, Verdict, Version};
 
 /// What a worker is answered that asks for work.
 #[derive(Drop)]
@@ -133,21 +132,21 @@ impl<'v, 'p, L: Run, E: Ledger, O: Ledger> Desk<'v, 'p, L, E, O> {
         }
     }
 
-    /// Answers an offer by a verdict, with the stamp of its version.
+    /// Answers an offer by a verdict that was found under its version.
     pub(crate) fn keep(
         &mut self,
         seat: &mut Seat<E, O>,
         offer: Offer<'p, L>,
         verdict: &Verdict<'_, '_>,
-        stamp: &Stamp<'p>,
     )
         requires party { (offer.party ≡ seat.old.party) × (seat.old.party < L.workers) }
         requires owed { 0 < seat.old.owed }
         requires about { IsAbout verdict.now offer.pair }
-        requires stamp { IsStampOf L.list stamp.now verdict.now.version }
+        requires version { verdict.now.version ≡ offer.stamp.value }
         ensures { OwesLess seat.old seat.new }
     {
-        self.board.keep(offer, verdict, stamp);
+        let stamp = offer.stamp().copy();
+        self.board.keep(offer, verdict, &stamp);
         self.ledgers.pay(seat);
     }
 

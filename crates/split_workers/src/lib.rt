@@ -6,6 +6,7 @@ mod bench;
 mod desk;
 mod found;
 mod report;
+mod room;
 mod running;
 mod seat;
 mod worker;

@@ -8,8 +8,9 @@ ghost use Rattle.split_workers.specs.Reports.{AreReports};
 
 use crate::desk::Desk;
 use crate::report::{WorkReport, reports_of};
+use crate::room::Room;
 use crate::seat::{Seat, seats};
-use crate::worker::{Room, work};
+use crate::worker::work;
 use product_machine::Product;
 use refine_board::{Board, Journal, Run};
 use sec_base::Gate;
@@ -32,6 +33,15 @@ pub struct Refined<'p> {
     pub reports: Vec<WorkReport>,
 }
 
+// The ledgers of a run, for which no name stands yet: of the offers that the board made, of its workers' ends, and of the
+// answers that they owe.
+#[derive(Drop)]
+struct Blanks {
+    offers: Blank,
+    ends: Blank,
+    owed: Blank,
+}
+
 // The same under the names of a run and of the ledgers of its workers.
 fn refine_named<
     'p,
@@ -43,20 +53,18 @@ fn refine_named<
 >(
     rt: &R,
     alloc: Global,
-    blank: Blank,
-    ends: Blank,
-    owed: Blank,
+    blanks: Blanks,
     versions: &Versions<'p>,
     first: Version<'p>,
     workers: u32,
     gate: &G,
 ) -> Result<Refined<'p>, AllocError>
-    requires name { (blank.name ≡ L.name) × (blank.parts ≡ L.parts) }
+    requires name { (blanks.offers.name ≡ L.name) × (blanks.offers.parts ≡ L.parts) }
     requires parts { 2 ^ 62 ≤ L.parts }
-    requires ends_name { ends.name ≡ E.name }
-    requires ends_parts { (ends.parts ≡ E.parts) × (E.parts ≡ workers) }
-    requires owed_name { owed.name ≡ O.name }
-    requires owed_parts { (owed.parts ≡ O.parts) × (O.parts ≡ workers * 2) }
+    requires ends_name { blanks.ends.name ≡ E.name }
+    requires ends_parts { (blanks.ends.parts ≡ E.parts) × (E.parts ≡ workers) }
+    requires owed_name { blanks.owed.name ≡ O.name }
+    requires owed_parts { (blanks.owed.parts ≡ O.parts) × (O.parts ≡ workers * 2) }
     requires product { first.pair ≡ L.pair }
     requires k { first.k ≡ L.k }
     requires workers { workers ≡ L.workers }
@@ -67,8 +75,9 @@ fn refine_named<
     ensures reports { IfOk result (λ r. AreReports workers r.journal.entries r.reports.items) }
 {
     let places = first.classes().len();
+    let Blanks { offers, ends, owed } = blanks;
     let (ledgers, seats) = seats::<E, O>(alloc, ends, owed, workers)?;
-    let board = Board::open(alloc, blank, versions, first, workers)?;
+    let board = Board::open(alloc, offers, versions, first, workers)?;
     let room = Room::<L, E, O>::new(Desk::new(board, ledgers), versions);
     let shared = &room;
     let told = thread::map_vec(
@@ -78,14 +87,7 @@ fn refine_named<
             requires party { seat.party < L.workers }
             requires fresh { (seat.ended ≡ 0) × (seat.owed ≡ 0) }
             ensures { IfSome result (HasEnded seat.party) }
-        {
-            let mut seat = seat;
-            if work(rt, alloc, shared, gate, &mut seat, places) {
-                Some(seat)
-            } else {
-                None
-            }
-        },
+        { work(rt, alloc, shared, gate, seat, places) },
     )?;
     let Some((version, journal)) = room.close(told) else {
         return Err(AllocError);
@@ -120,9 +122,11 @@ pub fn refine<'p, R: Threads + Wait + Sync, G: Gate>(
     refine_named::<Brand, Brand, Brand, R, G>(
         rt,
         alloc,
-        Blank::new(1 << 62),
-        Blank::new(workers as u64),
-        Blank::new(workers as u64 * 2),
+        Blanks {
+            offers: Blank::new(1 << 62),
+            ends: Blank::new(workers as u64),
+            owed: Blank::new(workers as u64 * 2),
+        },
         &versions,
         first,
         workers,

@@ -1,419 +1,261 @@
 //! A worker: it asks for a pair, proves it outside the lock and answers, until each pair is counted or memory runs out.
 //! Pairs that it finds apart it answers together, since each split opens all pairs again.
-ghost use Rattle.std.specs.Prelude.{◌≡◌, ◌≢◌, ◌<◌, ◌+◌, [], IfOk, IfSome, length, true};
+ghost use Rattle.std.specs.Prelude.{◌≡◌, ◌<◌, ◌≤◌, ◌+◌, IfOk, IfSome, length, true, vec_capacity};
 ghost use Rattle.boxcar.specs.Table.{Shows};
-ghost use Rattle.refine_board.specs.Running.{IsAbout, IsAsked, IsOf};
-ghost use Rattle.verdict_stamp.specs.Published.{IsStampOf};
 ghost use Rattle.split_workers.specs.Benches.{IsBenchOf};
-ghost use Rattle.split_workers.specs.Seats.{HasEnded, HaveEnded, OwesLess, AreHeld};
-ghost use Rattle.split_workers.specs.Desks.{IsAskedOf, IsOutcome};
+ghost use Rattle.split_workers.specs.Seats.{HasEnded};
+ghost use Rattle.split_workers.specs.Workers.{IsAtWork, IsFoundFor, IsTold, laden};
 
 use crate::bench::Bench;
-use crate::desk::{Asked, Desk};
+use crate::desk::Asked;
 use crate::found::Found;
+use crate::room::{Caller, Room};
 use crate::seat::Seat;
-use refine_board::{Journal, Offer, Run};
+use refine_board::{Offer, Run};
 use sec_base::Gate;
 use std::alloc::{AllocError, Global};
+use std::marker::Model;
+use std::sync::Wait;
 use std::sync::ledger::Ledger;
-use std::sync::{Condvar, Mutex, Wait};
-use verdict_stamp::{Proof, Stamp, Verdict, Version, Versions};
+use verdict_stamp::{Proof, Stamp, Versions};
 
-/// What the workers share: the locked desk, the bell that wakes those who wait for work, and the published versions, which
-/// are read without the lock.
+/// A worker, with its bench, and the offers that it holds: pairs that it found apart, each with a vector.
 #[derive(Drop)]
-pub(crate) struct Room<'v, 'p, L: Run, E: Ledger, O: Ledger> {
-    desk: Mutex<Desk<'v, 'p, L, E, O>>,
-    bell: Condvar,
-    versions: &'v Versions<'p>,
-    ghost list: { versions.now ≡ L.list },
+pub(crate) struct Worker<'r, 'v, 'p, L: Run, E: Ledger, O: Ledger, G: Gate> {
+    alloc: Global,
+    desk: Caller<'r, 'v, 'p, L, E, O, G>,
+    bench: Option<Bench<'v, 'p>>,
+    pocket: Vec<Found<'p, L>>,
+    most: usize,
 }
 
-impl<'v, 'p, L: Run, E: Ledger, O: Ledger> Room<'v, 'p, L, E, O> {
-    pub(crate) fn new(
-        desk: Desk<'v, 'p, L, E, O>,
-        versions: &'v Versions<'p>,
-    ) -> Room<'v, 'p, L, E, O>
-        requires list { versions.now ≡ L.list }
+impl<'r, 'v, 'p, L: Run, E: Ledger, O: Ledger, G: Gate> Model for Worker<'r, 'v, 'p, L, E, O, G> {
+    ghost use Rattle.std.specs.Prelude.{IfSome, length};
+    ghost use Rattle.split_workers.specs.Benches.{IsBenchOf};
+    ghost use Rattle.split_workers.specs.Seats.{AreHeld};
+    ghost use Rattle.split_workers.specs.Workers.{Laden, laden};
+
+    ghost Value = { Laden };
+
+    ghost view = { λ w. laden w.desk (length w.pocket.items) };
+
+    ghost invariant = { λ w. AreHeld w.desk.party w.pocket.items × IfSome w.bench (IsBenchOf L.list L.pair L.k) };
+}
+
+// The bench of a version: the one that the worker has, turned to it, or a new one.
+fn bench_for<'v, 'p, L: Run>(
+    alloc: Global,
+    versions: &'v Versions<'p>,
+    old: Option<Bench<'v, 'p>>,
+    stamp: &Stamp<'p>,
+) -> Result<Bench<'v, 'p>, AllocError>
+    requires list { versions.now ≡ L.list }
+    requires old { IfSome old (IsBenchOf L.list L.pair L.k) }
+    requires listed { IsBenchOf L.list L.pair L.k stamp.now }
+    ensures listed { IfOk result (λ b. Shows L.list b) }
+    ensures version { IfOk result (λ b. b.value ≡ stamp.now.value) }
+{
+    match old {
+        Some(bench) => bench.turned_to(alloc, versions, stamp),
+        None => Bench::new(alloc, versions, stamp),
+    }
+}
+
+// What comes of an offered pair at a bench of the offer's version.
+#[tactic(auto, using(crate::proofs::Finds::found_by))]
+fn find_at<'v, 'p, L: Run>(
+    alloc: Global,
+    bench: &mut Bench<'v, 'p>,
+    offer: &Offer<'p, L>,
+) -> Result<Proof<'v, 'p>, AllocError>
+    requires version { bench.old.value ≡ offer.now.stamp.value }
+    ensures bench { bench.new ≡ bench.old }
+    ensures found { IfOk result (IsFoundFor L.pair L.k offer.now) }
+{
+    let _owed = offer.stamp();
+    bench.settle(alloc, offer.pair())
+}
+
+// The same at the bench that the worker has, turned to that version, or a new one. Then the pocket has room for one more.
+fn find<'v, 'p, L: Run>(
+    alloc: Global,
+    versions: &'v Versions<'p>,
+    bench: &mut Option<Bench<'v, 'p>>,
+    pocket: &mut Vec<Found<'p, L>>,
+    offer: &Offer<'p, L>,
+) -> Result<Proof<'v, 'p>, AllocError>
+    requires list { versions.now ≡ L.list }
+    requires bench { IfSome bench.old (IsBenchOf L.list L.pair L.k) }
+    ensures bench { IfSome bench.new (IsBenchOf L.list L.pair L.k) }
+    ensures pocket { pocket.new.items ≡ pocket.old.items }
+    ensures room { IfOk result (λ _. length pocket.old.items < vec_capacity pocket.new) }
+    ensures found { IfOk result (IsFoundFor L.pair L.k offer.now) }
+{
+    let mut at = bench_for::<L>(alloc, versions, bench.take(), offer.stamp())?;
+    let found = find_at(alloc, &mut at, offer);
+    *bench = Some(at);
+    let found = found?;
+    pocket.reserve(1)?;
+    Ok(found)
+}
+
+impl<'r, 'v, 'p, L: Run, E: Ledger, O: Ledger, G: Gate> Worker<'r, 'v, 'p, L, E, O, G> {
+    // A worker that holds nothing. Its vectors have so many places each, and it holds a quarter of a gigabyte of them.
+    fn new(
+        alloc: Global,
+        desk: Caller<'r, 'v, 'p, L, E, O, G>,
+        places: u32,
+    ) -> Worker<'r, 'v, 'p, L, E, O, G>
+        ensures { result ≡ laden desk.entry 0 }
     {
-        Room {
-            desk: Mutex::new(desk),
-            bell: Condvar::new(),
-            versions,
+        Worker {
+            alloc,
+            desk,
+            bench: None,
+            pocket: Vec::new(alloc),
+            most: ((1u64 << 31) / (places as u64 + 1)) as usize,
         }
     }
 
-    /// What the run came to, when all workers have gone.
-    pub(crate) fn close(self, told: Vec<Option<Seat<E, O>>>) -> Option<(Version<'p>, Journal)>
-        requires all { length told.items ≡ L.workers }
-        requires ended { HaveEnded told.items }
-        ensures { IfSome result (λ r. IsOutcome L.pair L.k L.workers L.opening r.0 r.1.entries) }
+    fn into_seat(self) -> Seat<E, O>
+        ensures party { result.party ≡ self.entry.party }
+        ensures ended { result.ended ≡ self.entry.ended }
+        ensures owed { result.owed ≡ self.entry.owed }
     {
-        let Room { desk, .. } = self;
-        desk.into_inner().close(told)
+        let Worker { desk, .. } = self;
+        desk.into_seat()
+    }
+
+    fn is_holding(&self) -> bool {
+        self.pocket.len() > 0
+    }
+
+    fn is_full(&self) -> bool {
+        self.pocket.len() > self.most
+    }
+
+    fn wait(&self, rt: &impl Wait) {
+        self.desk.wait(rt);
     }
 
     // Asks for work.
-    fn ask<G: Gate>(
-        &self,
-        rt: &impl Wait,
-        gate: &G,
-        call: u64,
-        seat: &mut Seat<E, O>,
-        bench: &Option<Bench<'v, 'p>>,
-        holding: bool,
-    ) -> Asked<'p, L>
-        requires party { seat.old.party < L.workers }
-        requires working { seat.old.ended ≡ 0 }
-        requires bench { IfSome bench.now (IsBenchOf L.list L.pair L.k) }
-        ensures { IsAskedOf seat.old seat.new result }
+    fn ask(&mut self, rt: &impl Wait) -> Asked<'p, L>
+        requires { IsAtWork self.old.party 0 self.old }
+        ensures { IsTold self.old.party self.new result }
     {
-        let party = seat.party();
-        gate.hold(party, call);
-        let asked = self.desk.lock(rt).ask(rt, seat, bench, holding);
-        gate.told(party, call);
-        asked
+        let holding = self.pocket.len() > 0;
+        self.desk.ask(rt, &self.bench, holding)
     }
 
-    // Sleeps while there is nothing to do until another worker answers. Each answer rings the bell, and so does each stop.
-    fn wait(&self, rt: &impl Wait) {
-        let guard = self.desk.lock(rt);
-        drop(self.bell.wait_while(rt, guard, |desk| desk.is_idle()));
-    }
-
-    // Stops the run. Whoever waits is woken, and stops too.
-    fn stop<G: Gate>(&self, rt: &impl Wait, gate: &G, call: u64, party: u32) {
-        gate.hold(party, call);
-        self.desk.lock(rt).stop();
-        self.bell.notify_all();
-        gate.told(party, call);
-    }
-
-    // Gives an offer back, and stops the run.
-    fn give_back<G: Gate>(
-        &self,
-        rt: &impl Wait,
-        gate: &G,
-        call: u64,
-        seat: &mut Seat<E, O>,
-        offer: Offer<'p, L>,
-    )
-        requires party { (offer.party ≡ seat.old.party) × (seat.old.party < L.workers) }
-        requires owed { 0 < seat.old.owed }
-        ensures { OwesLess seat.old seat.new }
+    // Answers that an offered pair holds, or puts the offer into the pocket with a vector. Where memory ran out the offer goes back.
+    fn answer(&mut self, rt: &impl Wait, offer: Offer<'p, L>) -> Result<(), AllocError>
+        requires party { offer.party ≡ self.old.party }
+        requires hand { IsAtWork self.old.party 1 self.old }
+        ensures { IsAtWork self.old.party 0 self.new }
     {
-        let party = seat.party();
-        gate.hold(party, call);
-        self.desk.lock(rt).give_back(seat, offer);
-        self.bell.notify_all();
-        gate.told(party, call);
-    }
-
-    // Answers that an offered pair holds.
-    fn keep<G: Gate>(
-        &self,
-        rt: &impl Wait,
-        gate: &G,
-        call: u64,
-        seat: &mut Seat<E, O>,
-        offer: Offer<'p, L>,
-        verdict: &Verdict<'_, '_>,
-        stamp: &Stamp<'p>,
-    )
-        requires party { (offer.party ≡ seat.old.party) × (seat.old.party < L.workers) }
-        requires owed { 0 < seat.old.owed }
-        requires about { IsAbout verdict.now offer.pair }
-        requires stamp { IsStampOf L.list stamp.now verdict.now.version }
-        ensures { OwesLess seat.old seat.new }
-    {
-        let party = seat.party();
-        gate.hold(party, call);
-        self.desk.lock(rt).keep(seat, offer, verdict, stamp);
-        self.bell.notify_all();
-        gate.told(party, call);
-    }
-
-    // Answers a vector that separates an offered pair.
-    fn split<G: Gate>(
-        &self,
-        rt: &impl Wait,
-        gate: &G,
-        call: u64,
-        seat: &mut Seat<E, O>,
-        found: Found<'p, L>,
-    )
-        requires party { (found.party ≡ seat.old.party) × (seat.old.party < L.workers) }
-        requires owed { 0 < seat.old.owed }
-        ensures { OwesLess seat.old seat.new }
-    {
-        let Found { offer, vector } = found;
-        let party = seat.party();
-        gate.hold(party, call);
-        self.desk.lock(rt).split(seat, offer, vector);
-        self.bell.notify_all();
-        gate.told(party, call);
+        let Worker {
+            alloc,
+            desk,
+            bench,
+            pocket,
+            ..
+        } = self;
+        desk.works();
+        match find(*alloc, desk.versions(), bench, pocket, &offer) {
+            Ok(Proof::Holds(verdict)) => {
+                desk.keep(rt, offer, &verdict);
+                Ok(())
+            }
+            Ok(Proof::Splits(vector)) => {
+                pocket.push_reserved(Found { offer, vector });
+                Ok(())
+            }
+            Err(error) => {
+                desk.give_back(rt, offer);
+                Err(error)
+            }
+        }
     }
 
     // Answers all offers that the worker holds.
-    fn hand_in<G: Gate>(
-        &self,
-        rt: &impl Wait,
-        gate: &G,
-        party: u32,
-        call: &mut u64,
-        seat: &mut Seat<E, O>,
-        pocket: &mut Vec<Found<'p, L>>,
-    )
-        requires party { party < L.workers }
-        requires seat { (seat.old.party ≡ party) × (seat.old.owed ≡ length pocket.old.items) }
-        requires held { AreHeld party pocket.old.items }
-        ensures seat { (seat.new.party ≡ party) × (seat.new.ended ≡ seat.old.ended) × (seat.new.owed ≡ 0) }
-        ensures pocket { pocket.new.items ≡ [] }
+    fn hand_in(&mut self, rt: &impl Wait)
+        requires { self.old.owed ≡ self.old.held }
+        ensures { self.new ≡ record self.old { owed = 0; held = 0 } }
     {
-        while let Some(found) = pocket.pop() {
-            self.split(rt, gate, next_call(call), seat, found);
+        while let Some(found) = self.pocket.pop() {
+            self.desk.split(rt, found);
         }
     }
 
-    // Leaves a run for want of memory: stops it, and gives back all offers that the worker holds.
-    fn leave<G: Gate>(
-        &self,
-        rt: &impl Wait,
-        gate: &G,
-        party: u32,
-        call: &mut u64,
-        seat: &mut Seat<E, O>,
-        pocket: &mut Vec<Found<'p, L>>,
-    )
-        requires party { party < L.workers }
-        requires seat { (seat.old.party ≡ party) × (seat.old.owed ≡ length pocket.old.items) }
-        requires held { AreHeld party pocket.old.items }
-        ensures seat { (seat.new.party ≡ party) × (seat.new.owed ≡ 0) }
-        ensures pocket { pocket.new.items ≡ [] }
+    // Leaves a run for want of memory: stops it, and gives all offers back that the worker holds.
+    fn leave(&mut self, rt: &impl Wait)
+        requires { self.old.owed ≡ self.old.held }
+        ensures { self.new ≡ record self.old { owed = 0; held = 0 } }
     {
-        self.stop(rt, gate, next_call(call), party);
-        while let Some(found) = pocket.pop() {
+        self.desk.stop(rt);
+        while let Some(found) = self.pocket.pop() {
             let Found { offer, .. } = found;
-            self.give_back(rt, gate, next_call(call), seat, offer);
+            self.desk.give_back(rt, offer);
         }
     }
 
-    // Proves an offered pair at a bench of its version. Answers that it holds at once; a vector that separates it goes into
-    // the pocket.
-    fn prove_at<G: Gate>(
-        &self,
-        rt: &impl Wait,
-        alloc: Global,
-        gate: &G,
-        party: u32,
-        call: &mut u64,
-        bench: &mut Bench<'v, 'p>,
-        seat: &mut Seat<E, O>,
-        pocket: &mut Vec<Found<'p, L>>,
-        offer: Offer<'p, L>,
-    ) -> Turn
-        requires party { (offer.party ≡ party) × (party < L.workers) }
-        requires seat { (seat.old.party ≡ party) × (seat.old.ended ≡ 0) × (seat.old.owed ≡ length pocket.old.items + 1) }
-        requires held { AreHeld party pocket.old.items }
-        requires listed { Shows L.list bench.old }
-        requires asked { IsAsked bench.old.value offer.pair }
-        requires product { bench.old.value.pair ≡ L.pair }
-        requires k { bench.old.value.k ≡ L.k }
-        ensures bench { bench.new ≡ bench.old }
-        ensures going { result ≢ Turn.Ended }
-        ensures seat { (seat.new.party ≡ party) × (seat.new.ended ≡ 0) × (seat.new.owed ≡ length pocket.new.items) }
-        ensures held { AreHeld party pocket.new.items }
+    // Works until the end, and says whether it was told that each pair is counted; else memory ran out. Offers that it holds it
+    // hands in when it finds no open pair, the board has another version, or they are many; where it holds none it waits.
+    fn work(&mut self, rt: &impl Wait) -> bool
+        requires going { IsAtWork self.old.party 0 self.old }
+        ensures settled { self.new.owed ≡ 0 }
+        ensures party { self.new.party ≡ self.old.party }
+        ensures ended { result ≡ true → self.new.ended ≡ 1 }
     {
-        if pocket.reserve(1).is_err() {
-            self.give_back(rt, gate, next_call(call), seat, offer);
-            return Turn::Stopped;
-        }
-        match bench.settle(alloc, offer.pair()) {
-            Ok(Proof::Holds(verdict)) => self.keep(
-                rt,
-                gate,
-                next_call(call),
-                seat,
-                offer,
-                &verdict,
-                bench.stamp(),
-            ),
-            Ok(Proof::Splits(vector)) => pocket.push_reserved(Found { offer, vector }),
-            Err(_) => {
-                self.give_back(rt, gate, next_call(call), seat, offer);
-                return Turn::Stopped;
-            }
-        }
-        Turn::On
-    }
-
-    // The bench of a version: the one that the worker has, turned to it, or a new one.
-    fn bench_for(
-        &self,
-        alloc: Global,
-        old: Option<Bench<'v, 'p>>,
-        stamp: &Stamp<'p>,
-    ) -> Result<Bench<'v, 'p>, AllocError>
-        requires old { IfSome old (IsBenchOf L.list L.pair L.k) }
-        requires listed { IsBenchOf L.list L.pair L.k stamp.now }
-        ensures listed { IfOk result (λ b. Shows L.list b) }
-        ensures version { IfOk result (λ b. b.value ≡ stamp.now.value) }
-    {
-        match old {
-            Some(bench) => bench.turned_to(alloc, self.versions, stamp),
-            None => Bench::new(alloc, self.versions, stamp),
-        }
-    }
-
-    // Answers an offered pair, under the offer's version.
-    fn prove<G: Gate>(
-        &self,
-        rt: &impl Wait,
-        alloc: Global,
-        gate: &G,
-        party: u32,
-        call: &mut u64,
-        bench: &mut Option<Bench<'v, 'p>>,
-        seat: &mut Seat<E, O>,
-        pocket: &mut Vec<Found<'p, L>>,
-        offer: Offer<'p, L>,
-    ) -> Turn
-        requires party { (offer.party ≡ party) × (party < L.workers) }
-        requires seat { (seat.old.party ≡ party) × (seat.old.ended ≡ 0) × (seat.old.owed ≡ length pocket.old.items + 1) }
-        requires held { AreHeld party pocket.old.items }
-        requires bench { IfSome bench.old (IsBenchOf L.list L.pair L.k) }
-        ensures going { result ≢ Turn.Ended }
-        ensures seat { (seat.new.party ≡ party) × (seat.new.ended ≡ 0) × (seat.new.owed ≡ length pocket.new.items) }
-        ensures held { AreHeld party pocket.new.items }
-        ensures bench { IfSome bench.new (IsBenchOf L.list L.pair L.k) }
-    {
-        gate.works(party, last_call(*call));
-        match self.bench_for(alloc, bench.take(), offer.stamp()) {
-            Ok(mut at) => {
-                let turn = self.prove_at(rt, alloc, gate, party, call, &mut at, seat, pocket, offer);
-                *bench = Some(at);
-                turn
-            }
-            Err(_) => {
-                self.give_back(rt, gate, next_call(call), seat, offer);
-                Turn::Stopped
-            }
-        }
-    }
-
-    // Asks once, and does what is asked. Offers that it holds it hands in when it finds no open pair, or the board has
-    // another version; where it holds none and finds none it waits.
-    fn turn<G: Gate>(
-        &self,
-        rt: &impl Wait,
-        alloc: Global,
-        gate: &G,
-        party: u32,
-        call: &mut u64,
-        bench: &mut Option<Bench<'v, 'p>>,
-        seat: &mut Seat<E, O>,
-        pocket: &mut Vec<Found<'p, L>>,
-    ) -> Turn
-        requires party { party < L.workers }
-        requires seat { (seat.old.party ≡ party) × (seat.old.ended ≡ 0) × (seat.old.owed ≡ length pocket.old.items) }
-        requires held { AreHeld party pocket.old.items }
-        requires bench { IfSome bench.old (IsBenchOf L.list L.pair L.k) }
-        ensures bench { IfSome bench.new (IsBenchOf L.list L.pair L.k) }
-        ensures seat { result ≢ Turn.Ended → (seat.new.party ≡ party) × (seat.new.ended ≡ 0) × (seat.new.owed ≡ length pocket.new.items) }
-        ensures held { result ≢ Turn.Ended → AreHeld party pocket.new.items }
-        ensures ended { result ≡ Turn.Ended → HasEnded party seat.new }
-    {
-        let number = next_call(call);
-        let holding = pocket.len() > 0;
-        match self.ask(rt, gate, number, seat, bench, holding) {
-            Asked::Work(offer) => {
-                self.prove(rt, alloc, gate, party, call, bench, seat, pocket, offer)
-            }
-            Asked::Idle | Asked::Moved => {
-                if holding {
-                    self.hand_in(rt, gate, party, call, seat, pocket);
-                } else {
-                    self.wait(rt);
+        for _turn in rt.forever() {
+            match self.ask(rt) {
+                Asked::Work(offer) => {
+                    if self.answer(rt, offer).is_err() {
+                        self.leave(rt);
+                        return false;
+                    }
                 }
-                Turn::On
+                Asked::Idle | Asked::Moved => {
+                    if self.is_holding() {
+                        self.hand_in(rt);
+                    } else {
+                        self.wait(rt);
+                    }
+                }
+                Asked::Ended => {
+                    self.hand_in(rt);
+                    return true;
+                }
+                Asked::Stopped => {
+                    self.leave(rt);
+                    return false;
+                }
             }
-            Asked::Ended => {
-                self.hand_in(rt, gate, party, call, seat, pocket);
-                Turn::Ended
+            if self.is_full() {
+                self.hand_in(rt);
             }
-            Asked::Stopped => Turn::Stopped,
         }
+        unreachable!()
     }
 }
 
-// What a worker does next.
-#[derive(Clone, Copy, PartialEq, Eq)]
-enum Turn {
-    /// It asks again.
-    On,
-    /// It ends, since each pair is counted.
-    Ended,
-    /// It ends for want of memory.
-    Stopped,
-}
-
-// The number of the next call; it stays where it is the greatest.
-fn next_call(call: &mut u64) -> u64 {
-    let now = *call;
-    *call = now.saturating_add(1);
-    now
-}
-
-// The number of the last call.
-fn last_call(call: u64) -> u64 {
-    call.saturating_sub(1)
-}
-
-// Whether the vectors of so many places take a quarter of a gigabyte.
-fn is_full<T>(pocket: &Vec<T>, places: u32) -> bool {
-    pocket.len() as u64 > (1 << 31) / (places as u64 + 1)
-}
-
-/// Works until the end, and says whether the worker was told that each pair is counted; else memory ran out. Either way it owes
-/// no answer then.
+/// Works in a seat until the end, and gives it back where the worker was told that each pair is counted; else memory ran out.
+/// Either way each offer that it was given is answered or given back by then.
 pub(crate) fn work<'v, 'p, L: Run, E: Ledger, O: Ledger, G: Gate>(
     rt: &impl Wait,
     alloc: Global,
     room: &Room<'v, 'p, L, E, O>,
     gate: &G,
-    seat: &mut Seat<E, O>,
+    seat: Seat<E, O>,
     places: u32,
-) -> bool
-    requires party { seat.old.party < L.workers }
-    requires fresh { (seat.old.ended ≡ 0) × (seat.old.owed ≡ 0) }
-    ensures settled { seat.new.owed ≡ 0 }
-    ensures ended { result ≡ true → HasEnded seat.old.party seat.new }
+) -> Option<Seat<E, O>>
+    requires party { seat.party < L.workers }
+    requires fresh { (seat.ended ≡ 0) × (seat.owed ≡ 0) }
+    ensures { IfSome result (HasEnded seat.party) }
 {
-    let party = seat.party();
-    let mut bench = None;
-    let mut pocket = Vec::new(alloc);
-    let mut call: u64 = 0;
-    for _turn in rt.forever() {
-        match room.turn(
-            rt,
-            alloc,
-            gate,
-            party,
-            &mut call,
-            &mut bench,
-            seat,
-            &mut pocket,
-        ) {
-            Turn::On => {}
-            Turn::Ended => return true,
-            Turn::Stopped => {
-                room.leave(rt, gate, party, &mut call, seat, &mut pocket);
-                return false;
-            }
-        }
-        if is_full(&pocket, places) {
-            room.hand_in(rt, gate, party, &mut call, seat, &mut pocket);
-        }
+    let mut worker = Worker::new(alloc, Caller::new(room, gate, seat), places);
+    if !worker.work(rt) {
+        return None;
     }
-    unreachable!()
+    Some(worker.into_seat())
 }

@@ -2,13 +2,13 @@ use Rattle.refine_board.specs.Schedules.{opened}
 use Rattle.split_workers.proofs.running.refine.Given as goal
 
 abbrev pub ghosts-refine_named-L-Ledger : goal.ghosts-refine_named-L-Ledger
-ghosts-refine_named-L-Ledger g a = record { name = a.blank.name; parts = a.blank.parts }
+ghosts-refine_named-L-Ledger g a = record { name = a.blanks.offers.name; parts = a.blanks.offers.parts }
 
 abbrev pub ghosts-refine_named-L-Run : goal.ghosts-refine_named-L-Run
 ghosts-refine_named-L-Run g a = record { pair = a.first.pair; k = a.first.k; workers = a.workers; opening = opened a.first.pair a.workers a.first.classes a.first.number; list = a.versions.now }
 
 abbrev pub ghosts-refine_named-E-Ledger : goal.ghosts-refine_named-E-Ledger
-ghosts-refine_named-E-Ledger g a = record { name = a.ends.name; parts = a.ends.parts }
+ghosts-refine_named-E-Ledger g a = record { name = a.blanks.ends.name; parts = a.blanks.ends.parts }
 
 abbrev pub ghosts-refine_named-O-Ledger : goal.ghosts-refine_named-O-Ledger
-ghosts-refine_named-O-Ledger g a = record { name = a.owed.name; parts = a.owed.parts }
+ghosts-refine_named-O-Ledger g a = record { name = a.blanks.owed.name; parts = a.blanks.owed.parts }

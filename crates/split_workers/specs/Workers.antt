@@ -1,0 +1,40 @@
+-- A worker between its calls: what it holds, and what it owes.
+use Rattle.std.specs.Prelude.{◌≡◌, ℕ, ◌+◌}
+use Rattle.circ_model.specs.Meaning.{Pair}
+use Rattle.refine_board.specs.Running.{IsAbout, IsOf, Owed}
+use Rattle.verdict_stamp.specs.declared.prover.Proof.{Proof}
+use Rattle.verdict_stamp.specs.declared.prover.Proof.TheVariants.{Holds, Splits}
+use Rattle.split_workers.specs.Seats.{Seated}
+use Rattle.split_workers.specs.declared.desk.Asked.{Asked}
+use Rattle.split_workers.specs.declared.desk.Asked.TheVariants.{Work, Idle, Moved, Ended, Stopped}
+
+-- its party, whether it was told that each pair is counted (0 or 1), how many answers it owes, and how many offers it holds with a vector
+pub record Laden : Type 0 where
+  pub party : ℕ
+  pub ended : ℕ
+  pub owed : ℕ
+  pub held : ℕ
+
+abbrev pub laden : Seated → ℕ → Laden
+laden seat held = record { party = seat.party; ended = seat.ended; owed = seat.owed; held = held }
+
+-- it works on, and owes an answer for each offer that it holds and for so many that it has in hand
+abbrev pub IsAtWork : ℕ → ℕ → Laden → Type 0
+IsAtWork party hand w = (w.party ≡ party) × (w.ended ≡ 0) × (w.owed ≡ w.held + hand)
+
+-- it was told that each pair is counted, and owes an answer for each offer that it holds
+abbrev pub IsAtEnd : ℕ → Laden → Type 0
+IsAtEnd party w = (w.party ≡ party) × (w.ended ≡ 1) × (w.owed ≡ w.held)
+
+-- where it is given a pair it has that in hand
+abbrev pub IsTold : {L : Type 0} → ℕ → Laden → Asked L → Type 0
+IsTold party after (Work offer) = (offer.party ≡ party) × IsAtWork party 1 after
+IsTold party after Idle = IsAtWork party 0 after
+IsTold party after Moved = IsAtWork party 0 after
+IsTold party after Ended = IsAtEnd party after
+IsTold party after Stopped = IsAtWork party 0 after
+
+-- what comes of an offered pair: a verdict under the offer's version, or a vector of the run's netlists and k
+abbrev pub IsFoundFor : Pair → ℕ → Owed → Proof → Type 0
+IsFoundFor pair k offer (Holds w) = IsAbout w offer.pair × (w.version ≡ offer.stamp.value)
+IsFoundFor pair k offer (Splits x) = IsOf pair k x

@@ -1,0 +1,224 @@
+//! What the workers of a run share, and a worker's calls of the desk: each goes past the gate and locks the desk, and the bell
+//! rings where it lets it go.
+ghost use Rattle.std.specs.Prelude.{◌≡◌, ◌<◌, IfSome, length};
+ghost use Rattle.refine_board.specs.Running.{IsAbout};
+ghost use Rattle.split_workers.specs.Benches.{IsBenchOf};
+ghost use Rattle.split_workers.specs.Seats.{HaveEnded, OwesLess};
+ghost use Rattle.split_workers.specs.Desks.{IsAskedOf, IsOutcome};
+
+use crate::bench::Bench;
+use crate::desk::{Asked, Desk};
+use crate::found::Found;
+use crate::seat::Seat;
+use bell::Bell;
+use refine_board::{Journal, Offer, Run};
+use sec_base::Gate;
+use std::marker::Model;
+use std::sync::Wait;
+use std::sync::ledger::Ledger;
+use verdict_stamp::{Verdict, Version, Versions};
+
+/// The desk behind its lock, with the bell that wakes those who wait for work, and the published versions, which are read
+/// without the lock.
+#[derive(Drop)]
+pub(crate) struct Room<'v, 'p, L: Run, E: Ledger, O: Ledger> {
+    desk: Bell<Desk<'v, 'p, L, E, O>>,
+    versions: &'v Versions<'p>,
+    ghost list: { versions.now ≡ L.list },
+}
+
+impl<'v, 'p, L: Run, E: Ledger, O: Ledger> Room<'v, 'p, L, E, O> {
+    pub(crate) fn new(
+        desk: Desk<'v, 'p, L, E, O>,
+        versions: &'v Versions<'p>,
+    ) -> Room<'v, 'p, L, E, O>
+        requires list { versions.now ≡ L.list }
+    {
+        Room {
+            desk: Bell::new(desk),
+            versions,
+        }
+    }
+
+    /// What the run came to, when all workers have gone.
+    pub(crate) fn close(self, told: Vec<Option<Seat<E, O>>>) -> Option<(Version<'p>, Journal)>
+        requires all { length told.items ≡ L.workers }
+        requires ended { HaveEnded told.items }
+        ensures { IfSome result (λ r. IsOutcome L.pair L.k L.workers L.opening r.0 r.1.entries) }
+    {
+        let Room { desk, .. } = self;
+        desk.into_inner().close(told)
+    }
+}
+
+// A worker at the gate, which is told the number of each of its calls.
+#[derive(Drop)]
+struct Turnstile<'r, G: Gate> {
+    gate: &'r G,
+    worker: u32,
+    call: u64,
+}
+
+impl<'r, G: Gate> Turnstile<'r, G> {
+    // Before a call.
+    fn hold(&self) {
+        self.gate.hold(self.worker, self.call);
+    }
+
+    // After it. The number stays where it is the greatest.
+    fn told(&mut self) {
+        self.gate.told(self.worker, self.call);
+        self.call = self.call.saturating_add(1);
+    }
+
+    // Where a proof begins, with the number of the last call.
+    fn works(&self) {
+        self.gate.works(self.worker, self.call.saturating_sub(1));
+    }
+}
+
+/// A worker's seat in the room, from which it calls the desk.
+#[derive(Drop)]
+pub(crate) struct Caller<'r, 'v, 'p, L: Run, E: Ledger, O: Ledger, G: Gate> {
+    room: &'r Room<'v, 'p, L, E, O>,
+    gate: Turnstile<'r, G>,
+    seat: Seat<E, O>,
+}
+
+impl<'r, 'v, 'p, L: Run, E: Ledger, O: Ledger, G: Gate> Model for Caller<'r, 'v, 'p, L, E, O, G> {
+    ghost use Rattle.std.specs.Prelude.{◌<◌};
+    ghost use Rattle.split_workers.specs.Seats.{Seated};
+
+    ghost Value = { Seated };
+
+    ghost view = { λ c. c.seat };
+
+    ghost invariant = { λ c. c.seat.party < L.workers };
+}
+
+impl<'r, 'v, 'p, L: Run, E: Ledger, O: Ledger, G: Gate> Caller<'r, 'v, 'p, L, E, O, G> {
+    /// Takes a seat.
+    pub(crate) fn new(
+        room: &'r Room<'v, 'p, L, E, O>,
+        gate: &'r G,
+        seat: Seat<E, O>,
+    ) -> Caller<'r, 'v, 'p, L, E, O, G>
+        requires party { seat.party < L.workers }
+        ensures { result ≡ seat }
+    {
+        let worker = seat.party();
+        Caller {
+            room,
+            gate: Turnstile {
+                gate,
+                worker,
+                call: 0,
+            },
+            seat,
+        }
+    }
+
+    /// Leaves it.
+    pub(crate) fn into_seat(self) -> Seat<E, O>
+        ensures { result ≡ self.entry }
+    {
+        let Caller { seat, .. } = self;
+        seat
+    }
+
+    /// The published versions.
+    pub(crate) fn versions(&self) -> &'v Versions<'p>
+        ensures { result.now ≡ L.list }
+    {
+        self.room.versions
+    }
+
+    /// Tells the gate that a proof begins.
+    pub(crate) fn works(&self) {
+        self.gate.works();
+    }
+
+    /// Asks for work, with the bench, and whether the worker holds offers.
+    pub(crate) fn ask(
+        &mut self,
+        rt: &impl Wait,
+        bench: &Option<Bench<'v, 'p>>,
+        holding: bool,
+    ) -> Asked<'p, L>
+        requires working { self.old.ended ≡ 0 }
+        requires bench { IfSome bench.now (IsBenchOf L.list L.pair L.k) }
+        ensures { IsAskedOf self.old self.new result }
+    {
+        self.gate.hold();
+        let asked = self
+            .room
+            .desk
+            .lock(rt)
+            .value()
+            .ask(rt, &mut self.seat, bench, holding);
+        self.gate.told();
+        asked
+    }
+
+    /// Sleeps while there is nothing to do until another worker answers or stops the run. Each call rings the bell.
+    pub(crate) fn wait(&self, rt: &impl Wait) {
+        self.room.desk.wait_while(rt, |desk| desk.is_idle());
+    }
+
+    /// Stops the run. Whoever waits then stops too.
+    pub(crate) fn stop(&mut self, rt: &impl Wait)
+        ensures { self.new ≡ self.old }
+    {
+        self.gate.hold();
+        self.room.desk.lock(rt).value().stop();
+        self.gate.told();
+    }
+
+    /// Gives an offer back, and stops the run.
+    pub(crate) fn give_back(&mut self, rt: &impl Wait, offer: Offer<'p, L>)
+        requires party { offer.party ≡ self.old.party }
+        requires owed { 0 < self.old.owed }
+        ensures { OwesLess self.old self.new }
+    {
+        self.gate.hold();
+        self.room
+            .desk
+            .lock(rt)
+            .value()
+            .give_back(&mut self.seat, offer);
+        self.gate.told();
+    }
+
+    /// Answers that an offered pair holds.
+    pub(crate) fn keep(&mut self, rt: &impl Wait, offer: Offer<'p, L>, verdict: &Verdict<'_, '_>)
+        requires party { offer.party ≡ self.old.party }
+        requires owed { 0 < self.old.owed }
+        requires about { IsAbout verdict.now offer.pair }
+        requires version { verdict.now.version ≡ offer.stamp.value }
+        ensures { OwesLess self.old self.new }
+    {
+        self.gate.hold();
+        self.room
+            .desk
+            .lock(rt)
+            .value()
+            .keep(&mut self.seat, offer, verdict);
+        self.gate.told();
+    }
+
+    /// Answers a vector that separates an offered pair.
+    pub(crate) fn split(&mut self, rt: &impl Wait, found: Found<'p, L>)
+        requires party { found.party ≡ self.old.party }
+        requires owed { 0 < self.old.owed }
+        ensures { OwesLess self.old self.new }
+    {
+        let Found { offer, vector } = found;
+        self.gate.hold();
+        self.room
+            .desk
+            .lock(rt)
+            .value()
+            .split(&mut self.seat, offer, vector);
+        self.gate.told();
+    }
+}
