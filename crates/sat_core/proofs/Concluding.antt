@@ -1,4 +1,4 @@
-use Rattle.std.proofs.Common.{◌≡◌, ◌≢◌, ◌≤◌, ◌<◌, ◌-◌, ◌*◌, ◌/◌, ◌^◌, ℕ, List, [], ◌∷◌, ◌++◌, take, length, get_or, arith, sym, ◌∙◌, ap, subst, refl, ◌⊎◌, inl, inr, ⊎_elim, Bool, length-append, get_or-take}
+use Rattle.std.proofs.Common.{◌≡◌, ◌≢◌, ◌≤◌, ◌<◌, ◌-◌, ◌*◌, ◌/◌, ◌^◌, ℕ, List, [], ◌∷◌, ◌++◌, take, length, get_or, arith, sym, ◌∙◌, ap, subst, refl, ◌⊎◌, inl, inr, ⊎_elim, Bool, length-append, get_or-take, true}
 use Rattle.std.proofs.lemmas.Bool.{cases_eq, cases_lt}
 use Rattle.std.proofs.lemmas.List.{length_push, get_or_push, get_or_append_left, length-take-le, get_or_default}
 use Rattle.std.specs.List.{All, Any, Contains}
@@ -10,11 +10,13 @@ use Rattle.sat_core.specs.Signed.{signed_clauses, signed_line, coded}
 use Rattle.sat_trail.specs.Trail.{StandsBelow, IsWrong, IsPlaced, Reasoned, AreStarts}
 use Rattle.sat_core.specs.Analysis.{StandsFrom, IsLearned, AreKnown}
 use Rattle.sat_trail.specs.Looking.{IsTrueIn, IsOpenIn}
-use Rattle.sat_core.specs.Solving.{Standing}
+use Rattle.sat_trail.specs.declared.trail.Trail.{Trail}
+use Rattle.cnf_store.specs.Clauses.{satisfies}
+use Rattle.sat_core.specs.Solving.{Standing, IsRowOf}
 use Rattle.cnf_store.proofs.Lits.{neg_neg, neg_var, neg_other}
 use Rattle.sat_trail.proofs.Placing.{same_place, place_of, stands_small}
 use Rattle.sat_core.proofs.Deriving.{ends_push}
-use Rattle.sat_core.proofs.Signing.{line_follows}
+use Rattle.sat_core.proofs.Signing.{line_follows, satisfies_signed}
 use Rattle.sat_trail.proofs.Upkeep.{reasoned_new}
 
 -- the empty clause ends the log
@@ -121,3 +123,10 @@ standing_front lits a b all = λ k d lt. subst (λ (c : List ℕ). Any (StandsBe
 -- a row in which all literals of the trail are true
 pub standing_satisfies : (lits : List ℕ) (row : List Bool) (db : List (List ℕ)) → ((l : ℕ) → StandsBelow lits (length lits) l → MakesTrue row l) → Standing lits db → Satisfies row db
 standing_satisfies lits row db trues all = λ k d lt. let a = all k d lt in (a.0, a.1, a.2, a.3, trues a.1 a.4)
+
+-- the row of a trail on which every clause stands
+pub standing_row : (vars : ℕ) (formula now : List (List ℕ)) (trail : Trail) (row : List Bool) → length trail.at.items ≡ vars → now ≡ formula → Standing trail.lits.items now → IsRowOf trail row → (length row ≡ vars) × (satisfies row (signed_clauses formula) ≡ true)
+standing_row vars formula now trail row size e all r = (
+  r.size ∙ size,
+  satisfies_signed row formula (standing_satisfies trail.lits.items row formula r.trues (subst (Standing trail.lits.items) e all)),
+)

@@ -179,12 +179,12 @@ pub back_one : (n : ℕ) → 0 < n → n ≡ n - 1 + 1
 back_one n h = omega arith
 
 -- a literal that is false below a limit has its place there
-pub false_place : (at lits : List ℕ) (limit l read : ℕ) → IsPlaced (length at) lits at → limit ≤ length lits → StandsBelow lits limit (neg l) → read ≡ get_or at (l / 2) read → (0 < read) × (read - 1 < limit) × (read ≡ get_or at (l / 2) 0)
+pub false_place : (at lits : List ℕ) (limit l read : ℕ) → IsPlaced (length at) lits at → limit ≤ length lits → StandsBelow lits limit (neg l) → read ≡ get_or at (l / 2) read → (0 < read) × (read - 1 < limit) × (read ≡ get_or at (l / 2) 0) × (get_or lits (read - 1) 0 ≡ neg l)
 false_place at lits limit l read placed le wrong e =
     let small = stands_small (length at) lits at limit l placed le wrong in
     let h = place_of (length at) lits at limit l placed le wrong in
     let same : read ≡ get_or at (l / 2) 0 = e ∙ get_or_default at (l / 2) read 0 (omega arith) in
-    (omega (arith, h.0), omega (arith, h.1), same)
+    (omega (arith, h.0), omega (arith, h.1), same, subst (λ (p : ℕ). get_or lits (p - 1) 0 ≡ neg l) (sym same) h.2)
 
 -- one place more has no mark
 pub none_down : (seen : List Bool) (i n from : ℕ) → n ≡ i + 1 → get_or seen i false ≡ false → ((q : ℕ) → n ≤ q → q < from → get_or seen q false ≡ false) → (q : ℕ) → i ≤ q → q < from → get_or seen q false ≡ false
@@ -213,3 +213,7 @@ counts_back seen start n above below pos c = subst (λ (i : ℕ). Counts seen st
 -- the same mark, read from the row's slice
 pub same_mark : (a b : List Bool) (p : ℕ) (v : Bool) → a ≡ b → get_or a p false ≡ v → get_or b p false ≡ v
 same_mark a b p v e h = subst (λ (xs : List Bool). get_or xs p false ≡ v) e h
+
+-- a read place with one
+pub read_true : (xs : List Bool) (p : ℕ) (read : Bool) → read ≡ get_or xs p read → read ≡ true → p < length xs → get_or xs p false ≡ true
+read_true xs p read e z lt = sym (get_or_default xs p read false lt) ∙ sym e ∙ z

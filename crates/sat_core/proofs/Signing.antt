@@ -2,6 +2,7 @@
 use Rattle.std.proofs.Common.{◌≡◌, ◌≢◌, ◌≤◌, ◌<◌, ◌*◌, ◌-◌, ◌/◌, ◌%◌, ℕ, zero, suc, ℤ, pos, negsuc, neg_ℤ, List, [], ◌∷◌, ◌++◌, map, get_or, arith, sym, ◌∙◌, ap, ap₂, subst, refl, ◌⊎◌, inl, inr, ⊎_elim, Bool, true, not, eq-eqb, ne_eqb}
 use Rattle.std.proofs.lemmas.Bool.{cases_eq, and_from}
 use Rattle.std.proofs.lemmas.List.{map-append, length-map}
+use Rattle.std.proofs.lemmas.List.Elements.{All-push}
 use Rattle.std.specs.List.{All, Contains}
 use Rattle.cnf_store.specs.Clauses.{literal_true, clause_true, satisfies, IsLiteral, Formula}
 use Rattle.sat_log.specs.Derivations.{Line as SignedLine, LeavesOnly as SignedLeavesOnly, Refutes as SignedRefutes, Follows as SignedFollows, AllFollow, clauses_of}
@@ -43,6 +44,10 @@ lit_injective l m e = ⊎_elim
     (λ (a : l % 2 ≡ 1). ⊎_elim (λ (b : m % 2 ≡ 0). absurd (apart (suc (m / 2)) (l / 2) (sym (even_is m b) ∙ sym e ∙ odd_is l a)))
     (λ (b : m % 2 ≡ 1). let h = negsuc_injective (l / 2) (m / 2) (sym (odd_is l a) ∙ e ∙ odd_is m b) in omega arith) (parity m))
     (parity l)
+
+-- one code more
+pub codes_push : (n : ℕ) (codes news : List ℕ) (code : ℕ) → news ≡ codes ++ code ∷ [] → All (λ x. x < n) codes → code < n → All (λ x. x < n) news
+codes_push n codes news code e all lt = subst (All (λ (x : ℕ). x < n)) (sym e) (All-push (λ (x : ℕ). x < n) codes code all lt)
 
 -- a code below twice the variables is of one of them
 pub lit_within : (vars l : ℕ) → l < 2 * vars → IsLiteral vars (lit_of l)

@@ -1,5 +1,6 @@
 -- What the solver keeps, and what it answers.
-use Rattle.std.specs.Prelude.{◌≡◌, ◌<◌, ℕ, Bool, true, false, List, ◌++◌, length}
+use Rattle.std.specs.Prelude.{◌≡◌, ◌<◌, ℕ, Bool, true, false, List, ◌++◌, length, Option, Some, None, Vec}
+use Rattle.std.specs.declared.alloc.Global.{Global}
 use Rattle.std.specs.List.{All, Any}
 use Rattle.cnf_store.specs.Clauses.{Formula, satisfies}
 use Rattle.cnf_store.specs.Codes.{AreWithin, MakesTrue}
@@ -44,6 +45,11 @@ abbrev pub HasStepped : Solver → Solver → Progress → Type 0
 HasStepped old new On = Advances old new
 HasStepped old new Refuted = HasEnded old new false
 HasStepped old new Full = HasEnded old new true
+
+-- a row satisfies the formula, or the log is accepted
+abbrev pub HasDecided : Solver → Solver → Option (Vec Bool Global) → Type 0
+HasDecided old new (Some row) = (length row.items ≡ old.vars) × (satisfies row.items (signed_clauses old.formula) ≡ true)
+HasDecided old new None = HasEnded old new false
 
 -- the row makes true what stands on the trail
 pub record IsRowOf (trail : Trail) (row : List Bool) : Type 0 where

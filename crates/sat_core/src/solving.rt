@@ -7,8 +7,8 @@ ghost use Rattle.sat_log.specs.Derivations.{Line};
 ghost use Rattle.sat_trail.specs.Trail.{IsPlaced, StandsBelow, IsWrong, IsUnit, AreStarts};
 ghost use Rattle.sat_core.specs.Analysis.{IsLearned};
 ghost use Rattle.sat_core.specs.Signed.{signed_line, coded};
-ghost use Rattle.sat_core.specs.Solving.{Keeps, Advances, HasStepped, HasEnded, IsOutcome, Standing, IsRowOf};
-ghost use Rattle.sat_core.specs.declared.solving.Outcome.TheVariants.{Unsat};
+ghost use Rattle.sat_core.specs.Solving.{Keeps, Advances, HasStepped, HasEnded, HasDecided, IsOutcome, IsRowOf};
+ghost use Rattle.sat_core.specs.declared.solving.Outcome.TheVariants.{Sat, Unsat};
 ghost use Rattle.sat_trail.specs.Rank.{rank};
 
 use crate::analysis::Analysis;
@@ -315,14 +315,33 @@ pub fn solve_codes(
     requires size { length memory.trail.at.items ≡ vars }
     ensures { IfOk result (λ d. IsOutcome (coded vars (shared.now ++ own.now)) d.outcome) }
 {
-    let formula = Joined::new(shared, own)?;
-    let known = Joined::new(shared, own)?;
+    let (formula, known) = match join(shared, own) {
+        Ok(both) => both,
+        Err(e) => {
+            drop(memory);
+            return Err(e);
+        }
+    };
     let mut s = begin(alloc, vars, formula, known, memory);
-    if search(alloc, &mut s, guide)? {
-        satisfied(alloc, s)
-    } else {
-        Ok(refuted(s))
+    match assignment(alloc, &mut s, guide) {
+        Ok(Some(row)) => Ok(satisfied(s, row)),
+        Ok(None) => Ok(refuted(s)),
+        Err(e) => {
+            drop(s);
+            Err(e)
+        }
     }
+}
+
+// The formula, twice.
+fn join<'f>(
+    shared: &'f Arena<u32>,
+    own: &'f Arena<u32>,
+) -> Result<(Joined<'f>, Joined<'f>), AllocError>
+    ensures first { IfOk result (λ both. both.0 ≡ shared.entry.now ++ own.entry.now) }
+    ensures second { IfOk result (λ both. both.1 ≡ shared.entry.now ++ own.entry.now) }
+{
+    Ok((Joined::new(shared, own)?, Joined::new(shared, own)?))
 }
 
 // A solver that has done nothing yet.
@@ -354,6 +373,22 @@ fn begin<'f>(
         log: Log::new(alloc),
         trail,
         analysis,
+    }
+}
+
+// A row of bits that satisfies all clauses; or none, and then the log derives the empty clause.
+fn assignment(
+    alloc: Global,
+    s: &mut Solver,
+    guide: &mut Guide,
+) -> Result<Option<Vec<bool>>, AllocError>
+    requires { Keeps s.old }
+    ensures { IfOk result (HasDecided s.old s.new) }
+{
+    if search(alloc, s, guide)? {
+        Ok(Some(row_of(alloc, &s.trail)?))
+    } else {
+        Ok(None)
     }
 }
 
@@ -413,17 +448,14 @@ fn refuted(s: Solver) -> Decided
     }
 }
 
-// Ends with the trail's row.
-fn satisfied(alloc: Global, s: Solver) -> Result<Decided, AllocError>
-    requires size { length s.trail.at.items ≡ s.vars }
-    requires standing { Standing s.trail.lits.items s.formula }
-    ensures { IfOk result (λ d. IsOutcome (coded s.entry.vars s.entry.formula) d.outcome) }
+// Ends with a row of bits.
+fn satisfied(s: Solver, row: Vec<bool>) -> Decided
+    ensures { result.outcome ≡ Sat row }
 {
-    let row = row_of(alloc, &s.trail)?;
-    Ok(Decided {
+    Decided {
         outcome: Outcome::Sat(row),
         memory: into_memory(s),
-    })
+    }
 }
 
 // The memory of a solver.

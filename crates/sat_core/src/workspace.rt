@@ -23,7 +23,7 @@ impl Workspace {
 
     /// Keeps it for the next question.
     pub(crate) fn keep(&mut self, kept: Kept) {
-        self.kept = Some(kept);
+        self.kept.insert(kept);
     }
 }
 
