@@ -56,6 +56,7 @@ impl Ready {
             if old.question.guide.serves(vars, &self.hints) {
                 return Ok(old);
             }
+            drop(old);
         }
         let codes = &self.codes;
         Kept::new(alloc, vars, codes, &self.hints)
@@ -88,8 +89,13 @@ impl Ready {
         ensures { IfOk result (IsPosed own.now) }
     {
         let mut kept = self.kept(alloc, kept)?;
-        self.fill(alloc, &mut kept, own)?;
-        Ok(kept)
+        match self.fill(alloc, &mut kept, own) {
+            Ok(()) => Ok(kept),
+            Err(e) => {
+                drop(kept);
+                Err(e)
+            }
+        }
     }
 
     // Decides over codes, in the memory of earlier questions.
@@ -143,6 +149,8 @@ impl Ready {
         ensures { IfOk result (IsAnswer (joined self.now own.now)) }
     {
         let mut work = Workspace::new();
-        self.solve_in(alloc, &mut work, own)
+        let answer = self.solve_in(alloc, &mut work, own);
+        drop(work);
+        answer
     }
 }

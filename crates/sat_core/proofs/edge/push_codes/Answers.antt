@@ -1,4 +1,4 @@
-use Rattle.std.proofs.Common.{rules, arith, ◌<◌, ◌*◌, ℕ, List, sym, ◌∙◌, subst}
+use Rattle.std.proofs.Common.{rules, arith, ◌*◌, ◌∙◌}
 use Rattle.std.proofs.lemmas.Grind.{common_steps}
 use Rattle.std.proofs.lemmas.List.{take_all}
 use Rattle.sat_core.proofs.Signing.{codes_push}

@@ -1,8 +1,6 @@
-use Rattle.std.proofs.Common.{rules, arith, ℕ, ℤ, List, map, sym, ◌∙◌, ap, subst}
+use Rattle.std.proofs.Common.{arith, ℕ, List, map, ◌∙◌, ap}
 use Rattle.std.proofs.lemmas.Grind.{common_steps}
 use Rattle.std.proofs.lemmas.List.{take_all}
-use Rattle.std.proofs.lemmas.List.Elements.{All-push}
-use Rattle.cnf_store.specs.Clauses.{IsLiteral}
 use Rattle.sat_core.specs.Signed.{lit_of}
 use Rattle.sat_core.proofs.edge.push_literals.Goals as goal
 

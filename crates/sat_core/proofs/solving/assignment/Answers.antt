@@ -1,4 +1,4 @@
-use Rattle.std.proofs.Common.{◌≡◌, ◌∙◌, ℕ, List, subst}
+use Rattle.std.proofs.Common.{◌∙◌, subst}
 use Rattle.sat_core.specs.Solving.{HasEnded}
 use Rattle.sat_core.proofs.Concluding.{standing_row}
 use Rattle.sat_core.proofs.solving.assignment.Goals as goal

@@ -7,7 +7,7 @@ use Rattle.corr_certificate.specs.Parts.{ReadsEnd, ReadsMembers}
 use Rattle.corr_certificate.proofs.Answering.{at_ok, at_err}
 use Rattle.corr_certificate.proofs.Ranges.{range_none}
 use Rattle.corr_certificate.proofs.Going.{skipped, went_on, faulted}
-use Rattle.corr_certificate.proofs.reading.body.read_members.Goals as goal
+use Rattle.corr_certificate.proofs.reading.body.read_parts.Goals as goal
 
 pub loop-member-preserved-then-rep-member : goal.loop-member-preserved-then-rep-member
 loop-member-preserved-then-rep-member c =
