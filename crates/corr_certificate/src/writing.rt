@@ -207,10 +207,13 @@ fn push_member(
 {
     let signal = product.signal(place);
     let base = base_log(alloc, &mut work.base, product, k, classes, frames, place)?;
-    push_part(b"base ", signal, &base, text)?;
+    let pushed = push_part(b"base ", signal, &base, text);
+    drop(base);
+    pushed?;
     let step = step_log(alloc, &mut work.step, product, k, classes, frames, place)?;
-    push_part(b"step ", signal, &step, text)?;
-    Ok(())
+    let pushed = push_part(b"step ", signal, &step, text);
+    drop(step);
+    pushed
 }
 
 // Adds the parts of all places that aren't the least of their class, and the end.
@@ -249,13 +252,31 @@ fn text_of(
     let mut text = Vec::new(alloc);
     push_head(product, k, &mut text)?;
     push_class_lines(alloc, product, classes, &mut text)?;
+    push_parts(alloc, product, k, classes, &mut text)?;
+    Ok(text)
+}
+
+// Adds the parts of all places, over frames and in memory of their own.
+fn push_parts(
+    alloc: Global,
+    product: &Product,
+    k: u32,
+    classes: &Classes,
+    text: &mut Vec<u8>,
+) -> Result<(), AllocError>
+    requires proved { AreProved product.now k classes.now }
+    ensures { OnOk result (AddsMembers product.now k classes.now text.old.items text.new.items) }
+{
+    let _places = classes.len();
     let frames = frames_of(alloc, product, k, classes)?;
     let mut work = Workspaces {
         base: Workspace::new(),
         step: Workspace::new(),
     };
-    push_members(alloc, &mut work, product, k, classes, &frames, &mut text)?;
-    Ok(text)
+    let pushed = push_members(alloc, &mut work, product, k, classes, &frames, text);
+    drop(work);
+    drop(frames);
+    pushed
 }
 
 /// The certificate of classes that are a correspondence for k and pair all outputs: it supports the pair, so reading it finds

@@ -134,7 +134,9 @@ impl<'p> Prepared<'p> {
         ensures { IfOk result (IsFound self.now (asks a b first last)) }
     {
         let mut work = Workspace::new();
-        self.find_in(alloc, &mut work, a, b, first, last)
+        let found = self.find_in(alloc, &mut work, a, b, first, last);
+        drop(work);
+        found
     }
 }
 
@@ -166,7 +168,9 @@ impl<'p> Unrolled<'p> {
             count: last - first + 1,
         };
         let own = self.beside(alloc, question)?;
-        match ready.solve_in(alloc, work, &own)? {
+        let answer = ready.solve_in(alloc, work, &own);
+        drop(own);
+        match answer? {
             Answer::Unsat(log) => Ok(Found::None(log)),
             Answer::Sat(row) => Ok(Found::Path(self.seen_in(alloc, &row, question)?)),
         }

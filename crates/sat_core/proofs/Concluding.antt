@@ -1,33 +1,32 @@
-use Rattle.std.proofs.Common.{◌≡◌, ◌≢◌, ◌≤◌, ◌<◌, ◌-◌, ◌*◌, ◌/◌, ◌^◌, ℕ, List, [], ◌∷◌, ◌++◌, take, length, get_or, arith, sym, ◌∙◌, ap, subst, refl, ◌⊎◌, inl, inr, ⊎_elim, Bool, length-append, get_or-take}
+use Rattle.std.proofs.Common.{◌≡◌, ◌≢◌, ◌≤◌, ◌<◌, ◌-◌, ◌*◌, ◌/◌, ◌^◌, ℕ, List, [], ◌∷◌, ◌++◌, take, length, get_or, arith, sym, ◌∙◌, ap, subst, refl, ◌⊎◌, inl, inr, ⊎_elim, Bool, length-append, get_or-take, true}
 use Rattle.std.proofs.lemmas.Bool.{cases_eq, cases_lt}
 use Rattle.std.proofs.lemmas.List.{length_push, get_or_push, get_or_append_left, length-take-le, get_or_default}
 use Rattle.std.specs.List.{All, Any, Contains}
 use Rattle.std.proofs.lemmas.List.Elements.{Contains-get_or}
-use Rattle.sat_core.specs.declared.logs.Line.{Line}
+use Rattle.sat_log.specs.Derivations.{Line, AllFollow, clauses_of, IsAccepted}
 use Rattle.cnf_store.specs.Codes.{neg, clause_at, AreWithin, MakesTrue, Satisfies}
 use Rattle.sat_core.specs.Derivations.{Refutes, Follows}
-use Rattle.sat_core.specs.Logged.{AllFollow, clauses_of, IsRefuted}
+use Rattle.sat_core.specs.Signed.{signed_clauses, signed_line, coded}
 use Rattle.sat_trail.specs.Trail.{StandsBelow, IsWrong, IsPlaced, Reasoned, AreStarts}
 use Rattle.sat_core.specs.Analysis.{StandsFrom, IsLearned, AreKnown}
 use Rattle.sat_trail.specs.Looking.{IsTrueIn, IsOpenIn}
-use Rattle.sat_core.specs.Solving.{Standing}
+use Rattle.sat_trail.specs.declared.trail.Trail.{Trail}
+use Rattle.cnf_store.specs.Clauses.{satisfies}
+use Rattle.sat_core.specs.Solving.{Standing, IsRowOf}
 use Rattle.cnf_store.proofs.Lits.{neg_neg, neg_var, neg_other}
 use Rattle.sat_trail.proofs.Placing.{same_place, place_of, stands_small}
-use Rattle.sat_core.proofs.Deriving.{follow_push, clauses_push}
+use Rattle.sat_core.proofs.Deriving.{ends_push}
+use Rattle.sat_core.proofs.Signing.{line_follows, satisfies_signed}
 use Rattle.sat_trail.proofs.Upkeep.{reasoned_new}
 
 -- the empty clause ends the log
-pub refuted : (vars : ℕ) (formula : List (List ℕ)) (log : List Line) (line : Line) (db : List (List ℕ)) → db ≡ formula ++ clauses_of log → AllFollow vars formula log → line.literals.items ≡ [] → Refutes db [] line.hints.items → AreKnown db line.hints.items → IsRefuted vars formula (log ++ line ∷ [])
-refuted vars formula log line db is follow none ref known =
-    let lits : List ℕ = line.literals.items in
-    let f : Follows vars db lits line.hints.items = subst (λ (xs : List ℕ). Follows vars db xs line.hints.items) (sym none)
-    (record { within = λ k d lt. absurd (omega arith); no_complement = λ k d lt. absurd (omega arith); earlier = known; refutes = ref }) in
-    record {
-      follow = follow_push vars formula log line follow (subst (λ (cs : List (List ℕ)). Follows vars cs lits line.hints.items) is f);
-      last = let e = clauses_push log line in
-          ap (λ (cs : List (List ℕ)). get_or cs (length cs - 1) (0 ∷ [])) e
-          ∙ get_or_push (clauses_of log) lits (0 ∷ []) (length (clauses_of log ++ lits ∷ []) - 1) (let n = length_push (clauses_of log) lits in omega arith) ∙ none;
-    }
+pub refuted : (vars : ℕ) (formula learned : List (List ℕ)) (db : List (List ℕ)) (log : List Line) (hints : List ℕ) → db ≡ formula ++ learned → clauses_of log ≡ signed_clauses learned → AllFollow vars (signed_clauses formula) log → Refutes db [] hints → AreKnown db hints
+    → IsAccepted (coded vars formula) (log ++ signed_line [] hints ∷ [])
+refuted vars formula learned db log hints is logged follow ref known = record {
+  follow = line_follows vars formula learned db log [] hints is logged follow
+      (record { within = λ k d lt. absurd (omega arith); no_complement = λ k d lt. absurd (omega arith); earlier = known; refutes = ref });
+  empty = ends_push log (signed_line [] hints) refl;
+}
 
 learned_stands : (db : List (List ℕ)) (lits : List ℕ) (start limit i : ℕ) (learned hints : List ℕ) → IsLearned db lits start limit i learned hints → limit ≤ length lits → (l : ℕ) → Contains learned l → StandsBelow lits limit (neg l)
 learned_stands db lits start limit i learned hints is le l c = ⊎_elim
@@ -124,3 +123,10 @@ standing_front lits a b all = λ k d lt. subst (λ (c : List ℕ). Any (StandsBe
 -- a row in which all literals of the trail are true
 pub standing_satisfies : (lits : List ℕ) (row : List Bool) (db : List (List ℕ)) → ((l : ℕ) → StandsBelow lits (length lits) l → MakesTrue row l) → Standing lits db → Satisfies row db
 standing_satisfies lits row db trues all = λ k d lt. let a = all k d lt in (a.0, a.1, a.2, a.3, trues a.1 a.4)
+
+-- the row of a trail on which every clause stands
+pub standing_row : (vars : ℕ) (formula now : List (List ℕ)) (trail : Trail) (row : List Bool) → length trail.at.items ≡ vars → now ≡ formula → Standing trail.lits.items now → IsRowOf trail row → (length row ≡ vars) × (satisfies row (signed_clauses formula) ≡ true)
+standing_row vars formula now trail row size e all r = (
+  r.size ∙ size,
+  satisfies_signed row formula (standing_satisfies trail.lits.items row formula r.trues (subst (Standing trail.lits.items) e all)),
+)

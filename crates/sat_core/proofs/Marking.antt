@@ -1,13 +1,16 @@
 -- Counts of marked places, and what one more mark does to them.
-use Rattle.std.proofs.Common.{◌≡◌, ◌≢◌, ◌≤◌, ◌<◌, ◌+◌, ◌-◌, ℕ, zero, suc, List, set, take, length, get_or, arith, sym, ◌∙◌, subst, refl, ◌⊎◌, inl, inr, ⊎_elim, Bool, true, false, get_or-set_same, get_or-set_other}
+use Rattle.std.proofs.Common.{◌≡◌, ◌≢◌, ◌≤◌, ◌<◌, ◌+◌, ◌-◌, ◌/◌, ℕ, zero, suc, List, set, take, length, get_or, arith, sym, ◌∙◌, subst, refl, ◌⊎◌, inl, inr, ⊎_elim, Bool, true, false, get_or-set_same, get_or-set_other}
 use Rattle.std.proofs.lemmas.Bool.{cases_eq, cases_lt, false≢true, le-leb, lt-leb}
 use Rattle.std.proofs.Common.{add-one, ◌&&◌}
 use Rattle.std.specs.Prelude.{nat_le, if◌then◌else◌}
-use Rattle.std.proofs.lemmas.List.{length-set, get_or_past}
+use Rattle.std.proofs.lemmas.List.{length-set, get_or_past, get_or_default}
 use Rattle.std.proofs.lemmas.List.Elements.{All-more, All-weaker}
 use Rattle.std.specs.List.{All}
-use Rattle.sat_core.specs.declared.analysis.Marked.{Marked}
-use Rattle.sat_core.specs.Analysis.{IsMarked, open_below, Marks, AddsMarks}
+use Rattle.cnf_store.specs.Codes.{neg}
+use Rattle.sat_trail.specs.Trail.{IsPlaced, StandsBelow}
+use Rattle.sat_trail.proofs.Placing.{place_of, stands_small}
+use Rattle.sat_core.specs.declared.marks.Marks.{Marks}
+use Rattle.sat_core.specs.Analysis.{IsMarked, open_below, Counts, HasMore, AddsMarks}
 
 -- a marked place from start on is one more
 pub open_next : (seen : List Bool) (start i : ℕ) → start ≤ i → get_or seen i false ≡ true → open_below seen start (i + 1) ≡ open_below seen start i + 1
@@ -99,57 +102,65 @@ pub seen_more : (seen : List Bool) (p q : ℕ) → p < length seen → get_or se
 seen_more seen p q lt is = ⊎_elim (λ (e : q ≡ p). subst (λ (x : ℕ). get_or (set seen p true) x false ≡ true) (sym e) (get_or-set_same seen p true false lt)) (λ (ne : q ≢ p). get_or-set_other seen p q true false ne ∙ is) (cases_eq q p)
 
 -- one mark more, below the limit
-pub adds_set : (seen : List Bool) (p limit : ℕ) → p < limit → p < length seen → AddsMarks limit seen (set seen p true)
-adds_set seen p limit lt len = record {
+pub more_set : (seen : List Bool) (p limit : ℕ) → p < limit → p < length seen → HasMore limit seen (set seen p true)
+more_set seen p limit lt len = record {
   size = length-set seen p true;
   more = λ q is. seen_more seen p q len is;
   past = λ q le. get_or-set_other seen p q true false (λ e. omega arith);
 }
 
+-- nothing more
+pub more_none : (limit : ℕ) (a : List Bool) → HasMore limit a a
+more_none limit a = record { size = refl; more = λ q is. is; past = λ q le. refl }
+
 -- marks are added twice
-pub adds_then : (limit : ℕ) (a b c : List Bool) → AddsMarks limit a b → AddsMarks limit b c → AddsMarks limit a c
+pub adds_then : (limit : ℕ) (a b c : Marks) → AddsMarks limit a b → AddsMarks limit b c → AddsMarks limit a c
 adds_then limit a b c one two = record {
-  size = two.size ∙ one.size;
-  more = λ q is. two.more q (one.more q is);
-  past = λ q le. two.past q le ∙ one.past q le;
+  seen = record {
+    size = two.seen.size ∙ one.seen.size;
+    more = λ q is. two.seen.more q (one.seen.more q is);
+    past = λ q le. two.seen.past q le ∙ one.seen.past q le;
+  };
+  start = two.start ∙ one.start;
+  grows = let g = one.grows in let h = two.grows in omega arith;
 }
 
 -- a mark below start
-pub marks_low : (seen : List Bool) (start limit : ℕ) (count : Marked) (p : ℕ) → Marks seen start limit count → p < start → p < length seen → get_or seen p false ≡ false → Marks (set seen p true) start limit (record { above = count.above; below = count.below + 1 })
-marks_low seen start limit count p m lt len un = record {
+pub counts_low : (seen : List Bool) (start limit above below p : ℕ) → Counts seen start limit above below → p < start → p < length seen → get_or seen p false ≡ false → Counts (set seen p true) start limit above (below + 1)
+counts_low seen start limit above below p m lt len un = record {
   above = open_set_low seen start limit p lt ∙ m.above;
   below = let h = open_set seen 0 start p (omega arith) lt len un in omega (arith, m.below);
 }
 
 -- a mark from start on
-pub marks_open : (seen : List Bool) (start limit : ℕ) (count : Marked) (p : ℕ) → Marks seen start limit count → start ≤ p → p < limit → p < length seen → get_or seen p false ≡ false → Marks (set seen p true) start limit (record { above = count.above + 1; below = count.below })
-marks_open seen start limit count p m le lt len un = record {
+pub counts_open : (seen : List Bool) (start limit above below p : ℕ) → Counts seen start limit above below → start ≤ p → p < limit → p < length seen → get_or seen p false ≡ false → Counts (set seen p true) start limit (above + 1) below
+counts_open seen start limit above below p m le lt len un = record {
   above = let h = open_set seen start limit p le lt len un in omega (arith, m.above);
   below = open_agree (set seen p true) seen 0 start (λ q low h. get_or-set_other seen p q true false (λ e. omega arith)) ∙ m.below;
 }
 
 -- a marked place is passed
-pub marks_step : (seen : List Bool) (start i : ℕ) (count : Marked) → start ≤ i → get_or seen i false ≡ true → Marks seen start (i + 1) count → (0 < count.above) × Marks seen start i (record { above = count.above - 1; below = count.below })
-marks_step seen start i count le is m = let h = open_next seen start i le is in (omega (arith, m.above), record { above = omega (arith, m.above); below = m.below })
+pub counts_step : (seen : List Bool) (start i above below : ℕ) → start ≤ i → get_or seen i false ≡ true → Counts seen start (i + 1) above below → (0 < above) × Counts seen start i (above - 1) below
+counts_step seen start i above below le is m = let h = open_next seen start i le is in (omega (arith, m.above), record { above = omega (arith, m.above); below = m.below })
 
 -- an unmarked place is passed
-pub marks_skip : (seen : List Bool) (start i : ℕ) (count : Marked) → get_or seen i false ≡ false → Marks seen start (i + 1) count → Marks seen start i count
-marks_skip seen start i count is m = let h = open_same seen start i is in record { above = omega (arith, m.above); below = m.below }
+pub counts_skip : (seen : List Bool) (start i above below : ℕ) → get_or seen i false ≡ false → Counts seen start (i + 1) above below → Counts seen start i above below
+counts_skip seen start i above below is m = let h = open_same seen start i is in record { above = omega (arith, m.above); below = m.below }
 
 -- a mark at the limit is taken away
-pub marks_unset : (seen : List Bool) (start i : ℕ) (count : Marked) → start ≤ i → Marks seen start i count → Marks (set seen i false) start i count
-marks_unset seen start i count le m = record {
+pub counts_unset : (seen : List Bool) (start i above below : ℕ) → start ≤ i → Counts seen start i above below → Counts (set seen i false) start i above below
+counts_unset seen start i above below le m = record {
   above = open_agree (set seen i false) seen start i (λ q low h. get_or-set_other seen i q false false (λ e. omega arith)) ∙ m.above;
   below = open_agree (set seen i false) seen 0 start (λ q low h. get_or-set_other seen i q false false (λ e. omega arith)) ∙ m.below;
 }
 
 -- those below start, counted from the first place on
-pub marks_below : (seen : List Bool) (start limit : ℕ) (count : Marked) → Marks seen start limit count → Marks seen 0 start (record { above = count.below; below = 0 })
-marks_below seen start limit count m = record { above = m.below; below = open_low seen 0 0 (omega arith) }
+pub counts_below : (seen : List Bool) (start below : ℕ) → open_below seen 0 start ≡ below → Counts seen 0 start below 0
+counts_below seen start below e = record { above = e; below = open_low seen 0 0 (omega arith) }
 
 -- a clean row
-pub marks_clean : (seen : List Bool) (start i : ℕ) → ((q : ℕ) → get_or seen q false ≡ false) → Marks seen start i (record { above = 0; below = 0 })
-marks_clean seen start i clean = record { above = open_clean seen start i clean; below = open_clean seen 0 start clean }
+pub counts_clean : (seen : List Bool) (start i above below : ℕ) → ((q : ℕ) → get_or seen q false ≡ false) → above ≡ 0 → below ≡ 0 → Counts seen start i above below
+counts_clean seen start i above below clean a b = record { above = open_clean seen start i clean ∙ sym a; below = open_clean seen 0 start clean ∙ sym b }
 
 -- what is marked stays marked
 pub marked_along : (lits : List ℕ) (a b : List Bool) (limit m : ℕ) → ((q : ℕ) → get_or a q false ≡ true → get_or b q false ≡ true) → IsMarked lits a limit m → IsMarked lits b limit m
@@ -166,3 +177,43 @@ all_marked_more clause skip lits a b limit i lt all more here =
 -- a place past the first is one past the one before
 pub back_one : (n : ℕ) → 0 < n → n ≡ n - 1 + 1
 back_one n h = omega arith
+
+-- a literal that is false below a limit has its place there
+pub false_place : (at lits : List ℕ) (limit l read : ℕ) → IsPlaced (length at) lits at → limit ≤ length lits → StandsBelow lits limit (neg l) → read ≡ get_or at (l / 2) read → (0 < read) × (read - 1 < limit) × (read ≡ get_or at (l / 2) 0) × (get_or lits (read - 1) 0 ≡ neg l)
+false_place at lits limit l read placed le wrong e =
+    let small = stands_small (length at) lits at limit l placed le wrong in
+    let h = place_of (length at) lits at limit l placed le wrong in
+    let same : read ≡ get_or at (l / 2) 0 = e ∙ get_or_default at (l / 2) read 0 (omega arith) in
+    (omega (arith, h.0), omega (arith, h.1), same, subst (λ (p : ℕ). get_or lits (p - 1) 0 ≡ neg l) (sym same) h.2)
+
+-- one place more has no mark
+pub none_down : (seen : List Bool) (i n from : ℕ) → n ≡ i + 1 → get_or seen i false ≡ false → ((q : ℕ) → n ≤ q → q < from → get_or seen q false ≡ false) → (q : ℕ) → i ≤ q → q < from → get_or seen q false ≡ false
+none_down seen i n from e here none q le lt = ⊎_elim (λ (s : q ≡ i). subst (λ (p : ℕ). get_or seen p false ≡ false) (sym s) here) (λ (ne : q ≢ i). none q (omega arith) lt) (cases_eq q i)
+
+-- a read place without a mark
+pub read_false : (xs : List Bool) (p : ℕ) (read : Bool) → read ≡ get_or xs p read → read ≡ false → get_or xs p false ≡ false
+read_false xs p read e z = sym (subst (λ (r : Bool). r ≡ get_or xs p r) z e)
+
+-- one mark more below start is at most start
+pub low_room : (seen : List Bool) (start limit above below p : ℕ) → Counts seen start limit above below → p < start → p < length seen → get_or seen p false ≡ false → below + 1 ≤ start
+low_room seen start limit above below p m lt len un =
+    let n = counts_low seen start limit above below p m lt len un in
+    let o = open_le (set seen p true) 0 start in omega (arith, n.below)
+
+-- one mark more from start on is at most the limit
+pub high_room : (seen : List Bool) (start limit above below p : ℕ) → Counts seen start limit above below → start ≤ p → p < limit → p < length seen → get_or seen p false ≡ false → above + 1 ≤ limit
+high_room seen start limit above below p m le lt len un =
+    let n = counts_open seen start limit above below p m le lt len un in
+    let o = open_le (set seen p true) start limit in omega (arith, n.above)
+
+-- the counts at one past the place before
+pub counts_back : (seen : List Bool) (start n above below : ℕ) → 0 < n → Counts seen start n above below → Counts seen start (n - 1 + 1) above below
+counts_back seen start n above below pos c = subst (λ (i : ℕ). Counts seen start i above below) (back_one n pos) c
+
+-- the same mark, read from the row's slice
+pub same_mark : (a b : List Bool) (p : ℕ) (v : Bool) → a ≡ b → get_or a p false ≡ v → get_or b p false ≡ v
+same_mark a b p v e h = subst (λ (xs : List Bool). get_or xs p false ≡ v) e h
+
+-- a read place with one
+pub read_true : (xs : List Bool) (p : ℕ) (read : Bool) → read ≡ get_or xs p read → read ≡ true → p < length xs → get_or xs p false ≡ true
+read_true xs p read e z lt = sym (get_or_default xs p read false lt) ∙ sym e ∙ z

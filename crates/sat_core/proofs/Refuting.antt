@@ -4,14 +4,14 @@ use Rattle.std.proofs.lemmas.Bool.{cases_eq, cases_lt, false≢true}
 use Rattle.std.proofs.lemmas.List.Elements.{Contains-append_left, Contains-push, Contains-push_cases}
 use Rattle.std.proofs.lemmas.List.{get_or-reverse, length-reverse, length-set}
 use Rattle.std.specs.List.{All, Contains}
-use Rattle.sat_core.specs.declared.analysis.Marked.{Marked}
+use Rattle.sat_core.specs.declared.analysis.Analysis.{Analysis}
 use Rattle.cnf_store.specs.Codes.{neg, clause_at}
 use Rattle.sat_core.specs.Derivations.{Refutes, LeavesOnly}
 use Rattle.sat_trail.specs.Trail.{IsPlaced, Reasoned}
-use Rattle.sat_core.specs.Analysis.{IsMarked, StandsOpen, Ready, open_below, AddsMarks, State, AreResolved, AreKept, IsLearned, StandsFrom, AreKnown}
+use Rattle.sat_core.specs.Analysis.{IsMarked, StandsOpen, Ready, open_below, HasMore, AreCounted, State, AreResolved, AreKept, IsLearned, StandsFrom, AreKnown, IsMinimised}
 use Rattle.sat_trail.proofs.Placing.{same_place}
 use Rattle.cnf_store.proofs.Lits.{neg_neg, neg_var, neg_injective}
-use Rattle.sat_core.proofs.Marking.{marked_within, open_none, marks_skip}
+use Rattle.sat_core.proofs.Marking.{marked_within, open_none}
 
 -- one more hint before others
 refutes_more : (db : List (List ℕ)) (a : List ℕ) (h l : ℕ) (hints : List ℕ) → LeavesOnly a (clause_at db h) l → Refutes db (l ∷ a) hints → Refutes db a (h ∷ hints)
@@ -53,7 +53,7 @@ ready_down db lits seen i j hints le ready assumed marked stands = ready assumed
     (λ l c. let s = stands l c in (s.0, ⊎_elim (λ (lt : s.0 < i). inl (omega arith)) (λ (is : get_or seen s.0 false ≡ true). inr is) s.1, s.2))
 
 -- more marks
-pub ready_more : (db : List (List ℕ)) (lits : List ℕ) (seen more : List Bool) (i j : ℕ) (hints : List ℕ) → i ≤ j → AddsMarks i seen more → Ready db lits seen j hints → Ready db lits more j hints
+pub ready_more : (db : List (List ℕ)) (lits : List ℕ) (seen more : List Bool) (i j : ℕ) (hints : List ℕ) → i ≤ j → HasMore i seen more → Ready db lits seen j hints → Ready db lits more j hints
 ready_more db lits seen more i j hints le adds ready assumed marked stands = ready assumed (λ q is. marked q (adds.more q is))
     (λ l c. let s = stands l c in (s.0, ⊎_elim (λ (lt : s.0 < j). inl lt) (λ (is : get_or more s.0 false ≡ true). ⊎_elim (λ (lt : s.0 < i). inl (omega arith)) (λ (past : i ≤ s.0). inr (sym (adds.past s.0 past) ∙ is)) (cases_lt s.0 i)) s.1, s.2))
 
@@ -99,18 +99,23 @@ pub root_refutes : (db : List (List ℕ)) (lits : List ℕ) (seen : List Bool) (
 root_refutes db lits seen i hints ready none done = ready []
     (λ q is. absurd (⊎_elim (λ (lt : q < i). open_none seen 0 i q none (omega arith) lt is) (λ (le : i ≤ q). false≢true (sym (done q le) ∙ is)) (cases_lt q i))) (λ l c. absurd (omega arith))
 
--- an unmarked place is passed
-pub state_skip : (db : List (List ℕ)) (lits : List ℕ) (seen : List Bool) (start : ℕ) (hints : List ℕ) (i : ℕ) (count : Marked) → get_or seen i false ≡ false → State db lits seen start hints (i + 1) count → State db lits seen start hints i count
-state_skip db lits seen start hints i count is s = record {
+-- unmarked places are passed
+pub state_down : (db : List (List ℕ)) (lits : List ℕ) (a : Analysis) (i j : ℕ) → i ≤ j → AreCounted i a.marks → State db lits a j → State db lits a i
+state_down db lits a i j le counted s = record {
   size = s.size;
-  marks = marks_skip seen start i count is s.marks;
-  ready = ready_down db lits seen i (i + 1) (reverse hints) (omega arith) s.ready;
+  within = let w = s.within in omega arith;
+  counted = counted;
+  ready = ready_down db lits a.marks.seen.items i j (reverse a.hints.items) le s.ready;
   known = s.known;
 }
 
 -- from a place on nothing is marked, and it isn't either
 pub resolved_more : (old new : List Bool) (i : ℕ) → AreResolved old (i + 1) → ((q : ℕ) → i < q → get_or new q false ≡ get_or old q false) → get_or new i false ≡ false → AreResolved new i
 resolved_more old new i done same here q le = ⊎_elim (λ (e : q ≡ i). subst (λ (p : ℕ). get_or new p false ≡ false) (sym e) here) (λ (ne : q ≢ i). same q (omega arith) ∙ done q (omega arith)) (cases_eq q i)
+
+-- nor down to the next that is
+pub resolved_down : (seen : List Bool) (i j : ℕ) → AreResolved seen j → ((q : ℕ) → i < q → q < j → get_or seen q false ≡ false) → AreResolved seen (i + 1)
+resolved_down seen i j done none q le = ⊎_elim (λ (lt : q < j). none q (omega arith) lt) (λ (ge : j ≤ q). done q ge) (cases_lt q j)
 
 -- at the first place nothing else is kept
 pub kept_first : (lits : List ℕ) (seen : List Bool) (start i : ℕ) → start ≤ i → get_or seen i false ≡ true → open_below seen start i ≡ 0 → AreResolved seen (i + 1) → AreKept lits seen start i start []
@@ -129,12 +134,12 @@ kept_resolve lits old new start first i learned lt same here k = record {
   stand = λ l c. let s = k.stand l c in let low = s.1 in (s.0, omega arith, s.2, s.3, same s.0 (omega arith) ∙ s.4);
 }
 
--- an unmarked place is passed, with what is kept
-pub kept_skip : (lits : List ℕ) (seen : List Bool) (start first i : ℕ) (learned : List ℕ) → get_or seen i false ≡ false → AreKept lits seen start first (i + 1) learned → AreKept lits seen start first i learned
-kept_skip lits seen start first i learned here k = record {
+-- unmarked places are passed, with what is kept
+pub kept_down : (lits : List ℕ) (seen : List Bool) (start first i j : ℕ) (learned : List ℕ) → i ≤ j → ((q : ℕ) → i ≤ q → q < j → get_or seen q false ≡ false) → AreKept lits seen start first j learned → AreKept lits seen start first i learned
+kept_down lits seen start first i j learned low none k = record {
   top = k.top;
-  all = λ q le mark. ⊎_elim (λ (e : q ≡ i). absurd (false≢true (sym here ∙ subst (λ (p : ℕ). get_or seen p false ≡ true) e mark))) (λ (ne : q ≢ i). k.all q (omega arith) mark) (cases_eq q i);
-  stand = λ l c. let s = k.stand l c in let low = s.1 in (s.0, omega arith, s.2, s.3, s.4);
+  all = λ q le mark. ⊎_elim (λ (lt : q < j). absurd (false≢true (sym (none q le lt) ∙ mark))) (λ (ge : j ≤ q). k.all q ge mark) (cases_lt q j);
+  stand = λ l c. let s = k.stand l c in let high = s.1 in (s.0, omega arith, s.2, s.3, s.4);
 }
 
 -- a place's literal is kept
@@ -184,14 +189,15 @@ known_reverse db hints known = λ k d lt. let e = get_or-reverse hints k d (omeg
     subst (λ (h : ℕ). (0 < h) × (h ≤ length db)) (sym e) (known (length hints - 1 - k) d (omega (arith, length-reverse hints)))
 
 -- what the walk comes to
-pub learned_is : (db : List (List ℕ)) (lits : List ℕ) (seen : List Bool) (start limit first : ℕ) (learned hints : List ℕ) → start ≤ first → first < limit → Ready db lits seen 0 (reverse hints) → AreKnown db hints → AreKept lits seen start first 0 learned
-    → IsLearned db lits start limit first (learned ++ neg (get_or lits first 0) ∷ []) (reverse hints)
-learned_is db lits seen start limit first learned hints le lt ready known k =
+pub learned_is : (db : List (List ℕ)) (lits : List ℕ) (a : Analysis) (start limit first : ℕ) → start ≤ first → first < limit → IsMinimised db lits start first a
+    → IsLearned db lits start limit first (a.learned.items ++ neg (get_or lits first 0) ∷ []) (reverse a.hints.items)
+learned_is db lits a start limit first le lt m =
+    let learned : List ℕ = a.learned.items in
     let u : ℕ = neg (get_or lits first 0) in record {
       above = le;
       below = lt;
       inside = Contains-push learned u;
-      stands = λ l c. ⊎_elim (λ (h : Contains learned l). let s = k.stand l h in inr (s.0, s.2, s.3)) (λ (e : u ≡ l). inl (sym e)) (Contains-push_cases learned u l c);
-      refutes = kept_refutes db lits seen start first learned (reverse hints) ready k;
-      known = known_reverse db hints known;
+      stands = λ l c. ⊎_elim (λ (h : Contains learned l). let s = m.kept.stand l h in inr (s.0, s.2, s.3)) (λ (e : u ≡ l). inl (sym e)) (Contains-push_cases learned u l c);
+      refutes = kept_refutes db lits a.marks.seen.items start first learned (reverse a.hints.items) m.ready m.kept;
+      known = known_reverse db a.hints.items m.known;
     }

@@ -1,16 +1,17 @@
 -- From codes to signed literals: clauses, derivations and rows.
-use Rattle.std.proofs.Common.{◌≡◌, ◌≢◌, ◌≤◌, ◌<◌, ◌*◌, ◌-◌, ◌/◌, ◌%◌, ℕ, zero, suc, ℤ, pos, negsuc, neg_ℤ, List, [], ◌∷◌, ◌++◌, map, get_or, length, arith, sym, ◌∙◌, ap, ap₂, subst, refl, ◌⊎◌, inl, inr, ⊎_elim, Bool, true, not, eq-eqb, ne_eqb}
+use Rattle.std.proofs.Common.{◌≡◌, ◌≢◌, ◌≤◌, ◌<◌, ◌*◌, ◌-◌, ◌/◌, ◌%◌, ℕ, zero, suc, ℤ, pos, negsuc, neg_ℤ, List, [], ◌∷◌, ◌++◌, map, get_or, arith, sym, ◌∙◌, ap, ap₂, subst, refl, ◌⊎◌, inl, inr, ⊎_elim, Bool, true, not, eq-eqb, ne_eqb}
 use Rattle.std.proofs.lemmas.Bool.{cases_eq, and_from}
 use Rattle.std.proofs.lemmas.List.{map-append, length-map}
+use Rattle.std.proofs.lemmas.List.Elements.{All-push}
 use Rattle.std.specs.List.{All, Contains}
 use Rattle.cnf_store.specs.Clauses.{literal_true, clause_true, satisfies, IsLiteral, Formula}
-use Rattle.sat_log.specs.Derivations.{Line as SignedLine, LeavesOnly as SignedLeavesOnly, Refutes as SignedRefutes, Follows as SignedFollows, AllFollow as SignedAllFollow, EndsEmpty, IsAccepted}
+use Rattle.sat_log.specs.Derivations.{Line as SignedLine, LeavesOnly as SignedLeavesOnly, Refutes as SignedRefutes, Follows as SignedFollows, AllFollow, clauses_of}
 use Rattle.sat_log.proofs.Soundness.{true_some}
-use Rattle.sat_core.specs.declared.logs.Line.{Line}
 use Rattle.cnf_store.specs.Codes.{neg, clause_at, MakesTrue, Satisfies}
 use Rattle.sat_core.specs.Derivations.{Refutes, Follows}
-use Rattle.sat_core.specs.Logged.{AllFollow, clauses_of, IsRefuted}
-use Rattle.sat_core.specs.Signed.{signed, lit_of, signed_clauses, signed_line}
+use Rattle.sat_core.proofs.Deriving.{follow_push, clauses_push}
+use Rattle.sat_core.specs.Signed.{signed, lit_of, signed_clauses, signed_line, coded}
+use Rattle.sat_core.specs.Answers.{joined}
 
 parity : (l : ℕ) → (l % 2 ≡ 0) ⊎ (l % 2 ≡ 1)
 parity l = ⊎_elim (λ (e : l % 2 ≡ 0). inl e) (λ (n : l % 2 ≢ 0). inr (omega arith)) (cases_eq (l % 2) 0)
@@ -43,6 +44,10 @@ lit_injective l m e = ⊎_elim
     (λ (a : l % 2 ≡ 1). ⊎_elim (λ (b : m % 2 ≡ 0). absurd (apart (suc (m / 2)) (l / 2) (sym (even_is m b) ∙ sym e ∙ odd_is l a)))
     (λ (b : m % 2 ≡ 1). let h = negsuc_injective (l / 2) (m / 2) (sym (odd_is l a) ∙ e ∙ odd_is m b) in omega arith) (parity m))
     (parity l)
+
+-- one code more
+pub codes_push : (n : ℕ) (codes news : List ℕ) (code : ℕ) → news ≡ codes ++ code ∷ [] → All (λ x. x < n) codes → code < n → All (λ x. x < n) news
+codes_push n codes news code e all lt = subst (All (λ (x : ℕ). x < n)) (sym e) (All-push (λ (x : ℕ). x < n) codes code all lt)
 
 -- a code below twice the variables is of one of them
 pub lit_within : (vars l : ℕ) → l < 2 * vars → IsLiteral vars (lit_of l)
@@ -93,46 +98,33 @@ refutes_signed db assumed (h ∷ i ∷ hs) (l, only, r) = (
   refutes_signed db (l ∷ assumed) (i ∷ hs) r,
 )
 
-follows_signed : (vars : ℕ) (db : List (List ℕ)) (l : Line) → Follows vars db l.literals.items l.hints.items → SignedFollows vars (signed_clauses db) (signed_line l)
-follows_signed vars db l f = record {
-  within = all_map (λ c. c < 2 * vars) (IsLiteral vars) l.literals.items (lit_within vars) f.within;
-  no_complement = all_map (λ c. Contains l.literals.items (neg c) → ⊥) (λ m. Contains (map lit_of l.literals.items) (neg_ℤ m) → ⊥) l.literals.items
-      (λ c n h. n (contains_back l.literals.items (neg c) (subst (Contains (map lit_of l.literals.items)) (neg_lit c) h))) f.no_complement;
-  earlier = subst (λ (n : ℕ). All (λ h. (0 < h) × (h ≤ n)) l.hints.items) (sym (length-map db (λ (c : List ℕ). map lit_of c))) f.earlier;
-  refutes = subst (λ (a : List ℤ). SignedRefutes (signed_clauses db) a l.hints.items) (map_neg l.literals.items) (refutes_signed db (map neg l.literals.items) l.hints.items f.refutes);
+-- the clauses of codes, and those that come after them
+pub signed_append : (a b : List (List ℕ)) → signed_clauses (a ++ b) ≡ signed_clauses a ++ signed_clauses b
+signed_append a b = map-append (λ (c : List ℕ). map lit_of c) a b
+
+pub follows_signed : (vars : ℕ) (db : List (List ℕ)) (literals hints : List ℕ) → Follows vars db literals hints → SignedFollows vars (signed_clauses db) (signed_line literals hints)
+follows_signed vars db literals hints f = record {
+  within = all_map (λ c. c < 2 * vars) (IsLiteral vars) literals (lit_within vars) f.within;
+  no_complement = all_map (λ c. Contains literals (neg c) → ⊥) (λ m. Contains (map lit_of literals) (neg_ℤ m) → ⊥) literals
+      (λ c n h. n (contains_back literals (neg c) (subst (Contains (map lit_of literals)) (neg_lit c) h))) f.no_complement;
+  earlier = subst (λ (n : ℕ). All (λ h. (0 < h) × (h ≤ n)) hints) (sym (length-map db (λ (c : List ℕ). map lit_of c))) f.earlier;
+  refutes = subst (λ (a : List ℤ). SignedRefutes (signed_clauses db) a hints) (map_neg literals) (refutes_signed db (map neg literals) hints f.refutes);
 }
 
-all_follow_signed : (vars : ℕ) (db : List (List ℕ)) (ls : List Line) → AllFollow vars db ls → SignedAllFollow vars (signed_clauses db) (map signed_line ls)
-all_follow_signed vars db [] all = tt
-all_follow_signed vars db (l ∷ ls) all = (
-  follows_signed vars db l all.0,
-  subst (λ (cs : List (List ℤ)). SignedAllFollow vars cs (map signed_line ls)) (map-append (λ (c : List ℕ). map lit_of c) db (l.literals.items ∷ [])) (all_follow_signed vars (db ++ l.literals.items ∷ []) ls all.1),
-)
+-- two formulas by codes as one
+pub joined_is : (n : ℕ) (shared own : List (List ℕ)) (f g : Formula) → n ≡ g.vars → signed_clauses shared ≡ f.clauses → signed_clauses own ≡ g.clauses → coded n (shared ++ own) ≡ joined f g
+joined_is n shared own f g v a b = ap₂ {C = Formula} (λ (m : ℕ) (cs : List (List ℤ)). record { vars = m; clauses = cs }) v (signed_append shared own ∙ ap₂ (λ (x y : List (List ℤ)). x ++ y) a b)
 
-ends_signed : (ls : List Line) → get_or (clauses_of ls) (length (clauses_of ls) - 1) (0 ∷ []) ≡ [] → EndsEmpty (map signed_line ls)
-ends_signed [] e = absurd (let z : 1 ≡ 0 = ap (λ (xs : List ℕ). length xs) e in omega arith)
-ends_signed (l ∷ []) e = ap (map lit_of) e
-ends_signed (l ∷ m ∷ ls) e =
-    let cs : List (List ℕ) = clauses_of (m ∷ ls) in
-    let k : length (l.literals.items ∷ cs) - 1 ≡ suc (length cs - 1) = omega arith in
-    ends_signed (m ∷ ls) (subst (λ (n : ℕ). get_or (l.literals.items ∷ cs) n (0 ∷ []) ≡ []) k e)
+-- one more line of a log over what was learned
+pub line_follows : (vars : ℕ) (formula learned : List (List ℕ)) (db : List (List ℕ)) (log : List SignedLine) (literals hints : List ℕ) → db ≡ formula ++ learned → clauses_of log ≡ signed_clauses learned → AllFollow vars (signed_clauses formula) log → Follows vars db literals hints
+    → AllFollow vars (signed_clauses formula) (log ++ signed_line literals hints ∷ [])
+line_follows vars formula learned db log literals hints is logged follow f =
+    let same : signed_clauses db ≡ signed_clauses formula ++ clauses_of log = ap (λ (cs : List (List ℕ)). signed_clauses cs) is ∙ signed_append formula learned ∙ ap (λ (cs : List (List ℤ)). signed_clauses formula ++ cs) (sym logged) in
+    follow_push vars (signed_clauses formula) log (signed_line literals hints) follow (subst (λ (cs : List (List ℤ)). SignedFollows vars cs (signed_line literals hints)) same (follows_signed vars db literals hints f))
 
-pub accepted_signed : (formula : Formula) (db : List (List ℕ)) (ls : List Line) (log : List SignedLine) → signed_clauses db ≡ formula.clauses → IsRefuted formula.vars db ls → log ≡ map signed_line ls → IsAccepted formula log
-accepted_signed formula db ls log e r f = subst (IsAccepted formula) (sym f) (record {
-  follow = subst (λ (cs : List (List ℤ)). SignedAllFollow formula.vars cs (map signed_line ls)) e (all_follow_signed formula.vars db ls r.follow);
-  empty = ends_signed ls r.last;
-})
-
--- lines of a log that follows have a text
-pub lines_small : (vars : ℕ) (db : List (List ℕ)) (ls : List Line) → vars ≤ 2147483647 → AllFollow vars db ls → All (λ (l : Line). All (λ c. c < 4294967294) l.literals.items) ls
-lines_small vars db [] few all k d lt = absurd (omega arith)
-lines_small vars db (l ∷ ls) few all zero d lt = λ j e h. let w = all.0.within j e h in omega arith
-lines_small vars db (l ∷ ls) few all (suc k) d lt = lines_small vars (db ++ l.literals.items ∷ []) ls few all.1 k d (omega arith)
-
-pub lines_hinted : (vars : ℕ) (db : List (List ℕ)) (ls : List Line) → AllFollow vars db ls → All (λ (l : Line). All (λ h. 0 < h) l.hints.items) ls
-lines_hinted vars db [] all k d lt = absurd (omega arith)
-lines_hinted vars db (l ∷ ls) all zero d lt = λ j e h. (all.0.earlier j e h).0
-lines_hinted vars db (l ∷ ls) all (suc k) d lt = lines_hinted vars (db ++ l.literals.items ∷ []) ls all.1 k d (omega arith)
+-- what was learned, with one clause more
+pub line_logged : (learned : List (List ℕ)) (log : List SignedLine) (literals hints : List ℕ) → clauses_of log ≡ signed_clauses learned → clauses_of (log ++ signed_line literals hints ∷ []) ≡ signed_clauses (learned ++ literals ∷ [])
+line_logged learned log literals hints e = clauses_push log (signed_line literals hints) ∙ ap (λ (cs : List (List ℤ)). cs ++ map lit_of literals ∷ []) e ∙ sym (signed_append learned (literals ∷ []))
 
 -- a row makes a code true where it makes its literal true
 true_signed : (row : List Bool) (l : ℕ) → MakesTrue row l → literal_true row (lit_of l) ≡ true

@@ -1,16 +1,9 @@
 -- What the solver answers.
-use Rattle.std.specs.Prelude.{◌≡◌, ◌≤◌, ◌++◌, ℕ, List, Bool, true, false, length}
+use Rattle.std.specs.Prelude.{◌≡◌, ◌++◌, List, Bool, true, false, length}
 use Rattle.cnf_store.specs.Clauses.{Formula, satisfies}
 use Rattle.sat_log.specs.Derivations.{IsAccepted}
 use Rattle.sat_core.specs.declared.answer.Answer.{Answer}
-use Rattle.sat_core.specs.declared.solving.Outcome.{Outcome}
-use Rattle.sat_core.specs.Signed.{signed_clauses}
-use Rattle.sat_core.specs.Solving.{IsOutcome}
 use Rattle.sat_core.specs.declared.answer.Answer.TheVariants.{Sat, Unsat}
-
--- it is decided so by codes
-abbrev pub IsDecided : Formula → Outcome → Type 0
-IsDecided formula outcome = (codes : List (List ℕ)) × (formula.vars ≤ 2147483647) × (signed_clauses codes ≡ formula.clauses) × IsOutcome formula.vars codes outcome
 
 -- a row with a bit for each variable that satisfies all clauses; or an accepted log, and then no row does
 abbrev pub IsAnswer : Formula → Answer → Type 0

@@ -1,6 +1,5 @@
 pub mod Derivations
 pub mod Analysis
-pub mod Logged
 pub mod Solving
 pub mod Watching
 pub mod Signed

@@ -1,5 +1,5 @@
 -- What propagation does.
-use Rattle.std.specs.Prelude.{◌≡◌, ◌≤◌, ◌<◌, ◌+◌, ℕ, List, length, Option, Some, None}
+use Rattle.std.specs.Prelude.{◌≡◌, ◌≤◌, ◌<◌, ℕ, length, Option, Some, None}
 use Rattle.sat_core.specs.declared.solving.Solver.{Solver}
 use Rattle.cnf_store.specs.Codes.{clause_at}
 use Rattle.sat_trail.specs.Trail.{IsWrong}
@@ -7,15 +7,18 @@ use Rattle.sat_core.specs.Solving.{Keeps}
 use Rattle.sat_trail.specs.Rank.{rank}
 
 -- the trail goes on
-pub record Grows (vars : ℕ) (formula : List (List ℕ)) (old new : Solver) : Type 0 where
-  pub keeps : Keeps vars formula new
-  pub rank : rank vars old.trail.reasons.items ≤ rank vars new.trail.reasons.items
+pub record Grows (old new : Solver) : Type 0 where
+  pub keeps : Keeps new
+  pub rank : rank old.vars old.trail.reasons.items ≤ rank new.vars new.trail.reasons.items
+  pub vars : new.vars ≡ old.vars
+  pub formula : new.formula ≡ old.formula
   pub clauses : new.db ≡ old.db
 
 -- this clause is false
-abbrev pub IsConflict : Solver → ℕ → Type 0
-IsConflict s c = (c < length s.db) × IsWrong s.trail.lits.items (length s.trail.lits.items) (clause_at s.db (c + 1))
+pub record IsFalse (s : Solver) (c : ℕ) : Type 0 where
+  pub known : (0 < c) × (c ≤ length s.db)
+  pub wrong : IsWrong s.trail.lits.items (length s.trail.lits.items) (clause_at s.db c)
 
-abbrev pub HasSwept : ℕ → List (List ℕ) → Solver → Solver → Option ℕ → Type 0
-HasSwept vars formula old new None = Grows vars formula old new
-HasSwept vars formula old new (Some c) = Grows vars formula old new × IsConflict new c
+abbrev pub HasSwept : Solver → Solver → Option ℕ → Type 0
+HasSwept old new None = Grows old new
+HasSwept old new (Some c) = Grows old new × IsFalse new c

@@ -7,307 +7,206 @@ ghost use Rattle.std.specs.Prelude.{◌≡◌, ◌≢◌, ◌≤◌, ◌<◌, �
 ghost use Rattle.std.specs.List.{All, Any, Contains};
 ghost use Rattle.cnf_store.specs.Codes.{neg, clause_at};
 ghost use Rattle.sat_core.specs.Derivations.{Refutes};
-ghost use Rattle.sat_trail.specs.Trail.{StandsBelow, IsPlaced, AreReasoned, Reasoned};
-ghost use Rattle.sat_core.specs.Analysis.{IsMarked, Ready, Marks, AddsMarks, State, AreResolved, AreKept, IsLearned, StandsFrom, AreKnown};
+ghost use Rattle.sat_trail.specs.Trail.{StandsBelow, AreReasoned};
+ghost use Rattle.sat_core.specs.Analysis.{IsMarked, AreCounted, AddsMarks, AreResolved, AreKnown, StandsFrom, IsConflict, State, Resolves, KeepsPlace, IsUnique, IsLowered, IsMinimised, IsLearned};
 
+use crate::marks::Marks;
 use cnf_store::Clauses;
 use sat_guide::Minimiser;
-use sat_trail::complement;
-use std::alloc::AllocError;
+use sat_trail::{Trail, complement};
+use std::alloc::{AllocError, Global};
 
-/// How many places are marked: from the start of the conflict's level on, and below it.
-#[derive(Clone, Copy, Drop)]
-pub struct Marked {
-    pub above: usize,
-    pub below: usize,
+/// What analysis works in, kept from conflict to conflict: the marked places, the clauses that were resolved, the learned
+/// clause, by codes and by signed literals, and what is known of the literals that it can do without.
+#[derive(Drop)]
+pub struct Analysis {
+    pub marks: Marks,
+    pub hints: Vec<u64>,
+    pub learned: Vec<u32>,
+    pub literals: Vec<i32>,
+    pub minimiser: Minimiser,
 }
 
-// Marks the place at which a literal is false.
-fn mark_one(
-    lit: u32,
-    lits: &[u32],
-    at: &[usize],
-    start: usize,
-    limit: usize,
-    seen: &mut [bool],
-    count: Marked,
-) -> Marked
-    requires placed { IsPlaced (length at.now) lits.now at.now }
-    requires wrong { StandsBelow lits.now limit (neg lit) }
-    requires limit { limit ≤ length lits.now }
-    requires seen { length seen.old ≡ length lits.now }
-    requires marks { Marks seen.old start limit count }
-    ensures marks { Marks seen.new start limit result }
-    ensures marked { IsMarked lits.now seen.new limit lit }
-    ensures grows { count.above ≤ result.above }
-    ensures adds { AddsMarks limit seen.old seen.new }
-{
-    let place = at[lit as usize / 2] - 1;
-    if seen[place] {
-        return count;
-    }
-    seen[place] = true;
-    if place < start {
-        Marked {
-            above: count.above,
-            below: count.below + 1,
-        }
-    } else {
-        Marked {
-            above: count.above + 1,
-            below: count.below,
+impl Analysis {
+    /// Nothing is learned yet.
+    pub fn new(alloc: Global) -> Analysis {
+        Analysis {
+            marks: Marks::new(alloc),
+            hints: Vec::new(alloc),
+            learned: Vec::new(alloc),
+            literals: Vec::new(alloc),
+            minimiser: Minimiser::new(alloc),
         }
     }
-}
 
-// The same, where the literal is not this one.
-fn mark_other(
-    lit: u32,
-    skip: u32,
-    lits: &[u32],
-    at: &[usize],
-    start: usize,
-    limit: usize,
-    seen: &mut [bool],
-    count: Marked,
-) -> Marked
-    requires placed { IsPlaced (length at.now) lits.now at.now }
-    requires wrong { (lit ≡ skip) ⊎ StandsBelow lits.now limit (neg lit) }
-    requires limit { limit ≤ length lits.now }
-    requires seen { length seen.old ≡ length lits.now }
-    requires marks { Marks seen.old start limit count }
-    ensures marks { Marks seen.new start limit result }
-    ensures marked { (lit ≡ skip) ⊎ IsMarked lits.now seen.new limit lit }
-    ensures grows { count.above ≤ result.above }
-    ensures adds { AddsMarks limit seen.old seen.new }
-{
-    if lit == skip {
-        return count;
+    /// Learns a clause from a conflict: resolves back to the first place that all paths from the last decision go through,
+    /// and drops literals that follow from the others. The complement of that place's literal is the clause's last. The
+    /// level's decision stands at `start`, and all literals of the conflict are false below `from`.
+    pub fn learn(
+        &mut self,
+        db: &Clauses,
+        trail: &Trail,
+        start: usize,
+        from: usize,
+        conflict: u64,
+    ) -> Result<usize, AllocError>
+        requires reasoned { AreReasoned db.now trail.now.lits.items trail.now.reasons.items }
+        requires implied { (p : ℕ) → start < p → p < from → 0 < slice_index trail.now.reasons.items p }
+        requires conflict { IsConflict db.now trail.now.lits.items from conflict }
+        requires top { Any (λ m. StandsFrom trail.now.lits.items start from (neg m)) (clause_at db.now conflict) }
+        ensures { IfOk result (λ i. IsLearned db.now trail.now.lits.items start from i self.new.learned.items self.new.hints.items) }
+    {
+        self.begin(db, trail, start, from, conflict)?;
+        let first = self.resolve_level(db, trail, from)?;
+        self.minimise(db, trail, first)?;
+        self.learned.push(complement(trail.lits[first]))?;
+        turn(&mut self.hints);
+        Ok(first)
     }
-    mark_one(lit, lits, at, start, limit, seen, count)
-}
 
-// Marks the places at which the literals of a clause are false, all but this one.
-fn mark(
-    clause: &[u32],
-    skip: u32,
-    lits: &[u32],
-    at: &[usize],
-    start: usize,
-    limit: usize,
-    seen: &mut [bool],
-    count: Marked,
-) -> Marked
-    requires placed { IsPlaced (length at.now) lits.now at.now }
-    requires wrong { All (λ m. (m ≡ skip) ⊎ StandsBelow lits.now limit (neg m)) clause.now }
-    requires limit { limit ≤ length lits.now }
-    requires seen { length seen.old ≡ length lits.now }
-    requires marks { Marks seen.old start limit count }
-    ensures marks { Marks seen.new start limit result }
-    ensures marked { All (λ m. (m ≡ skip) ⊎ IsMarked lits.now seen.new limit m) clause.now }
-    ensures grows { count.above ≤ result.above }
-    ensures adds { AddsMarks limit seen.old seen.new }
-{
-    let mut total = count;
-    for lit in clause {
-        total = mark_other(*lit, skip, lits, at, start, limit, seen, total);
-    }
-    total
-}
-
-// Resolves with the reason of place i.
-fn resolve(
-    db: &Clauses,
-    lits: &[u32],
-    reasons: &[u64],
-    at: &[usize],
-    start: usize,
-    i: usize,
-    seen: &mut [bool],
-    hints: &mut Vec<u64>,
-    count: Marked,
-) -> Result<Marked, AllocError>
-    requires placed { IsPlaced (length at.now) lits.now at.now }
-    requires reasoned { AreReasoned db.now lits.now reasons.now }
-    requires same { length reasons.now ≡ length lits.now }
-    requires place { (start ≤ i) × (i < length lits.now) }
-    requires implied { 0 < slice_index reasons.now i }
-    requires seen { slice_index_or seen.old i false ≡ true }
-    requires state { State db.now lits.now seen.old start hints.old.items (i + 1) count }
-    ensures state { IfOk result (λ n. State db.now lits.now seen.new start hints.new.items i n) }
-    ensures grows { IfOk result (λ n. count.above ≤ n.above + 1) }
-    ensures resolved { slice_index_or seen.new i false ≡ false }
-    ensures past { (q : ℕ) → i < q → slice_index_or seen.new q false ≡ slice_index_or seen.old q false }
-{
-    let reason = reasons[i];
-    let clause = db.get((reason - 1) as usize);
-    let rest = Marked {
-        above: count.above - 1,
-        below: count.below,
-    };
-    let marked = mark(clause, lits[i], lits, at, start, i, seen, rest);
-    seen[i] = false;
-    hints.push(reason)?;
-    Ok(marked)
-}
-
-// Marks the literals of the conflict.
-fn begin(
-    db: &Clauses,
-    lits: &[u32],
-    at: &[usize],
-    start: usize,
-    from: usize,
-    conflict: u64,
-    seen: &mut [bool],
-    hints: &mut Vec<u64>,
-) -> Result<Marked, AllocError>
-    requires placed { IsPlaced (length at.now) lits.now at.now }
-    requires few { length at.now < 2 ^ 31 }
-    requires from { from ≤ length lits.now }
-    requires conflict { (0 < conflict) × (conflict ≤ length db.now) }
-    requires wrong { All (λ m. StandsBelow lits.now from (neg m)) (clause_at db.now conflict) }
-    requires seen { length seen.old ≡ length lits.now }
-    requires clean { (q : ℕ) → slice_index_or seen.old q false ≡ false }
-    requires hints { hints.old.items ≡ [] }
-    ensures state { IfOk result (λ n. State db.now lits.now seen.new start hints.new.items from n) }
-    ensures marked { OnOk result (All (λ m. IsMarked lits.now seen.new from m) (clause_at db.now conflict)) }
-    ensures resolved { AreResolved seen.new from }
-{
-    let clause = db.get((conflict - 1) as usize);
-    let none = Marked { above: 0, below: 0 };
-    let count = mark(clause, u32::MAX, lits, at, start, from, seen, none);
-    hints.push(conflict)?;
-    Ok(count)
-}
-
-/// Learns a clause from a conflict: resolves back to the first place that all paths from the last decision go through, and
-/// drops literals that follow from the others. The complement of that place's literal is the clause's last.
-pub fn learn(
-    db: &Clauses,
-    lits: &[u32],
-    reasons: &[u64],
-    at: &[usize],
-    start: usize,
-    from: usize,
-    conflict: u64,
-    seen: &mut [bool],
-    learned: &mut Vec<u32>,
-    hints: &mut Vec<u64>,
-    minimiser: &mut Minimiser,
-) -> Result<usize, AllocError>
-    requires placed { IsPlaced (length at.now) lits.now at.now }
-    requires few { length at.now < 2 ^ 31 }
-    requires reasoned { AreReasoned db.now lits.now reasons.now }
-    requires same { length reasons.now ≡ length lits.now }
-    requires from { from ≤ length lits.now }
-    requires implied { (p : ℕ) → start < p → p < from → 0 < slice_index reasons.now p }
-    requires conflict { (0 < conflict) × (conflict ≤ length db.now) }
-    requires wrong { All (λ m. StandsBelow lits.now from (neg m)) (clause_at db.now conflict) }
-    requires top { Any (λ m. StandsFrom lits.now start from (neg m)) (clause_at db.now conflict) }
-    requires seen { length seen.old ≡ length lits.now }
-    requires clean { (q : ℕ) → slice_index_or seen.old q false ≡ false }
-    requires learned { learned.old.items ≡ [] }
-    requires hints { hints.old.items ≡ [] }
-    ensures { IfOk result (λ i. IsLearned db.now lits.now start from i learned.new.items hints.new.items) }
-{
-    let mut count = begin(db, lits, at, start, from, conflict, seen, hints)?;
-    let mut i = from;
-    'down: loop {
-        i -= 1;
-        if seen[i] {
-            if count.above == 1 {
-                break 'down;
-            }
-            count = resolve(db, lits, reasons, at, start, i, seen, hints, count)?;
+    /// Derives the empty clause from a conflict that rests on no decision.
+    pub fn learn_nothing(
+        &mut self,
+        db: &Clauses,
+        trail: &Trail,
+        from: usize,
+        conflict: u64,
+    ) -> Result<(), AllocError>
+        requires reasoned { AreReasoned db.now trail.now.lits.items trail.now.reasons.items }
+        requires implied { (p : ℕ) → p < from → 0 < slice_index trail.now.reasons.items p }
+        requires conflict { IsConflict db.now trail.now.lits.items from conflict }
+        ensures refutes { OnOk result (Refutes db.now [] self.new.hints.items) }
+        ensures known { OnOk result (AreKnown db.now self.new.hints.items) }
+    {
+        self.begin(db, trail, 0, from, conflict)?;
+        let mut i = from;
+        'down: while self.marks.above > 0 {
+            i = self.marks.next(i);
+            self.resolve(db, trail, i)?;
         }
+        turn(&mut self.hints);
+        Ok(())
     }
-    let below = Marked {
-        above: count.below,
-        below: 0,
-    };
-    minimise(
-        db, lits, reasons, at, start, i, seen, learned, hints, below, minimiser,
-    )?;
-    learned.push(complement(lits[i]))?;
-    turn(hints);
-    Ok(i)
-}
 
-// Goes on down from start: resolves marked places, or keeps their literals.
-fn minimise(
-    db: &Clauses,
-    lits: &[u32],
-    reasons: &[u64],
-    at: &[usize],
-    start: usize,
-    first: usize,
-    seen: &mut [bool],
-    learned: &mut Vec<u32>,
-    hints: &mut Vec<u64>,
-    count: Marked,
-    minimiser: &mut Minimiser,
-) -> Result<(), AllocError>
-    requires placed { IsPlaced (length at.now) lits.now at.now }
-    requires few { length at.now < 2 ^ 31 }
-    requires reasoned { AreReasoned db.now lits.now reasons.now }
-    requires same { length reasons.now ≡ length lits.now }
-    requires first { (start ≤ first) × (first < length lits.now) }
-    requires state { State db.now lits.now seen.old 0 hints.old.items start count }
-    requires kept { AreKept lits.now seen.old start first start learned.old.items }
-    ensures ready { OnOk result (Ready db.now lits.now seen.new 0 (reverse hints.new.items)) }
-    ensures known { OnOk result (AreKnown db.now hints.new.items) }
-    ensures kept { OnOk result (AreKept lits.now seen.new start first 0 learned.new.items) }
-{
-    let mut left = count;
-    let mut i = start;
-    'down: while left.above > 0 {
-        i -= 1;
-        if seen[i] {
-            left = drop_or_keep(
-                db, lits, reasons, at, start, first, i, seen, learned, hints, left, minimiser,
-            )?;
+    // Marks the literals of the conflict.
+    fn begin(
+        &mut self,
+        db: &Clauses,
+        trail: &Trail,
+        start: usize,
+        from: usize,
+        conflict: u64,
+    ) -> Result<(), AllocError>
+        requires conflict { IsConflict db.now trail.now.lits.items from conflict }
+        ensures state { OnOk result (State db.now trail.now.lits.items self.new from) }
+        ensures marked { OnOk result (All (λ m. IsMarked trail.now.lits.items self.new.marks.seen.items from m) (clause_at db.now conflict)) }
+        ensures resolved { OnOk result (AreResolved self.new.marks.seen.items from) }
+        ensures start { OnOk result (self.new.marks.start ≡ start) }
+    {
+        self.marks.clear(trail.lits.len(), start)?;
+        self.hints.clear();
+        self.hints.push(conflict)?;
+        self.marks
+            .mark(trail, db.get((conflict - 1) as usize), u32::MAX, from);
+        Ok(())
+    }
+
+    // Resolves with the reason of place i.
+    fn resolve(&mut self, db: &Clauses, trail: &Trail, i: usize) -> Result<(), AllocError>
+        requires reasoned { AreReasoned db.now trail.now.lits.items trail.now.reasons.items }
+        requires implied { 0 < slice_index trail.now.reasons.items i }
+        requires start { self.old.marks.start ≤ i }
+        requires seen { slice_index_or self.old.marks.seen.items i false ≡ true }
+        requires state { State db.now trail.now.lits.items self.old (i + 1) }
+        ensures { OnOk result (Resolves db.now trail.now.lits.items i self.old self.new) }
+    {
+        let reason = trail.reasons[i];
+        self.hints.push(reason)?;
+        self.marks.above -= 1;
+        self.marks
+            .mark(trail, db.get((reason - 1) as usize), trail.lits[i], i);
+        self.marks.seen[i] = false;
+        Ok(())
+    }
+
+    // Resolves down to the first place that all paths from the level's decision go through.
+    fn resolve_level(
+        &mut self,
+        db: &Clauses,
+        trail: &Trail,
+        from: usize,
+    ) -> Result<usize, AllocError>
+        requires reasoned { AreReasoned db.now trail.now.lits.items trail.now.reasons.items }
+        requires implied { (p : ℕ) → self.old.marks.start < p → p < from → 0 < slice_index trail.now.reasons.items p }
+        requires state { State db.now trail.now.lits.items self.old from }
+        requires resolved { AreResolved self.old.marks.seen.items from }
+        requires some { 0 < self.old.marks.above }
+        ensures unique { IfOk result (λ i. IsUnique db.now trail.now.lits.items i self.new) }
+        ensures below { IfOk result (λ i. i < from) }
+        ensures start { OnOk result (self.new.marks.start ≡ self.old.marks.start) }
+    {
+        let mut i = self.marks.next(from);
+        'down: while self.marks.above > 1 {
+            self.resolve(db, trail, i)?;
+            i = self.marks.next(i);
         }
+        Ok(i)
     }
-    Ok(())
-}
 
-// Resolves place i, where it has a reason and the minimiser takes it to follow; else keeps its literal.
-fn drop_or_keep(
-    db: &Clauses,
-    lits: &[u32],
-    reasons: &[u64],
-    at: &[usize],
-    start: usize,
-    first: usize,
-    i: usize,
-    seen: &mut [bool],
-    learned: &mut Vec<u32>,
-    hints: &mut Vec<u64>,
-    count: Marked,
-    minimiser: &mut Minimiser,
-) -> Result<Marked, AllocError>
-    requires placed { IsPlaced (length at.now) lits.now at.now }
-    requires few { length at.now < 2 ^ 31 }
-    requires reasoned { AreReasoned db.now lits.now reasons.now }
-    requires same { length reasons.now ≡ length lits.now }
-    requires first { (start ≤ first) × (first < length lits.now) }
-    requires place { i < start }
-    requires seen { slice_index_or seen.old i false ≡ true }
-    requires state { State db.now lits.now seen.old 0 hints.old.items (i + 1) count }
-    requires kept { AreKept lits.now seen.old start first (i + 1) learned.old.items }
-    ensures state { IfOk result (λ n. State db.now lits.now seen.new 0 hints.new.items i n) }
-    ensures kept { OnOk result (AreKept lits.now seen.new start first i learned.new.items) }
-{
-    if reasons[i] > 0 && minimiser.follows(db, reasons, at, seen, i)? {
-        return Ok(resolve(db, lits, reasons, at, 0, i, seen, hints, count)?);
+    // Goes on down from the level's start: resolves marked places, or keeps their literals.
+    fn minimise(&mut self, db: &Clauses, trail: &Trail, first: usize) -> Result<(), AllocError>
+        requires reasoned { AreReasoned db.now trail.now.lits.items trail.now.reasons.items }
+        requires unique { IsUnique db.now trail.now.lits.items first self.old }
+        ensures { OnOk result (IsMinimised db.now trail.now.lits.items self.old.marks.start first self.new) }
+    {
+        let start = self.marks.start;
+        self.learned.clear();
+        self.minimiser.begin(start)?;
+        self.marks.lower();
+        let mut i = start;
+        'down: while self.marks.above > 0 {
+            i = self.marks.next(i);
+            self.drop_or_keep(db, trail, start, first, i)?;
+        }
+        Ok(())
     }
-    let kept = complement(lits[i]);
-    learned.push(kept)?;
-    Ok(Marked {
-        above: count.above - 1,
-        below: count.below,
-    })
+
+    // Resolves place i, where it has a reason and the minimiser takes it to follow; else keeps its literal.
+    fn drop_or_keep(
+        &mut self,
+        db: &Clauses,
+        trail: &Trail,
+        start: usize,
+        first: usize,
+        i: usize,
+    ) -> Result<(), AllocError>
+        requires reasoned { AreReasoned db.now trail.now.lits.items trail.now.reasons.items }
+        requires seen { slice_index_or self.old.marks.seen.items i false ≡ true }
+        requires lowered { IsLowered db.now trail.now.lits.items start first (i + 1) self.old }
+        ensures { OnOk result (IsLowered db.now trail.now.lits.items start first i self.new) }
+    {
+        if trail.reasons[i] == 0 {
+            return self.keep(trail, i);
+        }
+        let follows = self
+            .minimiser
+            .follows(db, &trail.reasons, &trail.at, &self.marks.seen, i)?;
+        if follows {
+            return self.resolve(db, trail, i);
+        }
+        self.keep(trail, i)
+    }
+
+    // Keeps the literal of place i.
+    fn keep(&mut self, trail: &Trail, i: usize) -> Result<(), AllocError>
+        requires place { i < length trail.now.lits.items }
+        requires some { 0 < self.old.marks.above }
+        ensures { OnOk result (KeepsPlace trail.now.lits.items i self.old self.new) }
+    {
+        self.learned.push(complement(trail.lits[i]))?;
+        self.marks.above -= 1;
+        Ok(())
+    }
 }
 
 // Turns the hints round.
@@ -315,41 +214,4 @@ fn turn(hints: &mut Vec<u64>)
     ensures { hints.new.items ≡ reverse hints.old.items }
 {
     hints.as_mut_slice().reverse();
-}
-
-/// Derives the empty clause from a conflict that rests on no decision.
-pub fn learn_nothing(
-    db: &Clauses,
-    lits: &[u32],
-    reasons: &[u64],
-    at: &[usize],
-    from: usize,
-    conflict: u64,
-    seen: &mut [bool],
-    hints: &mut Vec<u64>,
-) -> Result<(), AllocError>
-    requires placed { IsPlaced (length at.now) lits.now at.now }
-    requires few { length at.now < 2 ^ 31 }
-    requires reasoned { AreReasoned db.now lits.now reasons.now }
-    requires same { length reasons.now ≡ length lits.now }
-    requires from { from ≤ length lits.now }
-    requires implied { (p : ℕ) → p < from → 0 < slice_index reasons.now p }
-    requires conflict { (0 < conflict) × (conflict ≤ length db.now) }
-    requires wrong { All (λ m. StandsBelow lits.now from (neg m)) (clause_at db.now conflict) }
-    requires seen { length seen.old ≡ length lits.now }
-    requires clean { (q : ℕ) → slice_index_or seen.old q false ≡ false }
-    requires hints { hints.old.items ≡ [] }
-    ensures refutes { OnOk result (Refutes db.now [] hints.new.items) }
-    ensures known { OnOk result (AreKnown db.now hints.new.items) }
-{
-    let mut count = begin(db, lits, at, 0, from, conflict, seen, hints)?;
-    let mut i = from;
-    'down: while count.above > 0 {
-        i -= 1;
-        if seen[i] {
-            count = resolve(db, lits, reasons, at, 0, i, seen, hints, count)?;
-        }
-    }
-    turn(hints);
-    Ok(())
 }

@@ -4,12 +4,10 @@ ghost use Rattle.std.specs.Prelude.{◌≡◌, ◌≢◌, ◌≤◌, ◌<◌, �
 ghost use Rattle.std.specs.List.{All};
 ghost use Rattle.cnf_store.specs.Clauses.{IsLiteral, AreLiterals};
 ghost use Rattle.cnf_store.specs.Codes.{AreWithin};
-ghost use Rattle.sat_core.specs.Signed.{lit_of, signed_clauses, signed_line};
+ghost use Rattle.sat_core.specs.Signed.{lit_of, signed_clauses};
 
-use crate::logs::Line;
 use bit_rows::BitRow;
 use cnf_store::{Arena, Cnf};
-use sat_log::Log;
 use std::alloc::{AllocError, Global};
 
 // The code of a literal.
@@ -72,32 +70,17 @@ pub fn add_codes(
     Ok(())
 }
 
-// The literals of codes.
-fn push_literals(codes: &[u32], literals: &mut Vec<i32>) -> Result<(), AllocError>
+/// The literals of codes.
+pub fn push_literals(codes: &[u32], literals: &mut Vec<i32>) -> Result<(), AllocError>
     requires { All (λ l. l < 4294967294) codes.now }
-    ensures value { IfOk result (λ x. literals.new.items ≡ map lit_of codes.now) }
-    ensures literals { IfOk result (λ x. AreLiterals 2147483647 literals.new.items) }
+    ensures value { OnOk result (literals.new.items ≡ map lit_of codes.now) }
+    ensures literals { OnOk result (AreLiterals 2147483647 literals.new.items) }
 {
     literals.clear();
     for code in codes {
         literals.push(literal_of(*code))?;
     }
     Ok(())
-}
-
-/// The log of lines by codes.
-pub fn log_of(alloc: Global, lines: &[Line]) -> Result<Log, AllocError>
-    requires literals { All (λ l. All (λ c. c < 4294967294) l.literals.items) lines.now }
-    requires hints { All (λ l. All (λ h. 0 < h) l.hints.items) lines.now }
-    ensures { IfOk result (λ log. log ≡ map signed_line lines.now) }
-{
-    let mut log = Log::new(alloc);
-    let mut literals = Vec::new(alloc);
-    for line in lines {
-        push_literals(&line.literals, &mut literals)?;
-        log.add(&literals, &line.hints)?;
-    }
-    Ok(log)
 }
 
 /// A row of bits.

@@ -9,7 +9,7 @@
 mod analysis;
 mod answer;
 mod edge;
-mod logs;
+mod marks;
 mod ready;
 mod solving;
 mod watching;

@@ -1,14 +1,16 @@
 //! A formula that many questions share: what a search needs of it is made once.
 
-ghost use Rattle.std.specs.Prelude.{◌≡◌, ◌≤◌, ◌<◌, ◌^◌, ◌++◌, IfOk};
-ghost use Rattle.sat_core.specs.Answers.{IsAnswer, IsDecided, joined};
+ghost use Rattle.std.specs.Prelude.{◌≡◌, ◌≤◌, ◌<◌, ◌^◌, ◌++◌, [], IfOk, OnOk};
+ghost use Rattle.sat_core.specs.Answers.{IsAnswer, joined};
+ghost use Rattle.sat_core.specs.Ready.{IsPosed};
+ghost use Rattle.sat_core.specs.Solving.{IsOutcome};
 ghost use Rattle.cnf_store.specs.Codes.{AreWithin};
 ghost use Rattle.sat_core.specs.Signed.{signed_clauses};
 
 use crate::answer::Answer;
-use crate::edge::{add_codes, bits_of, log_of};
-use crate::solving::{Decided, Outcome, decide};
-use crate::workspace::{Kept, Workspace};
+use crate::edge::{add_codes, bits_of};
+use crate::solving::{Decided, Outcome, solve_codes};
+use crate::workspace::{Kept, Question, Workspace};
 use cnf_store::{Arena, Cnf};
 use sat_guide::Hints;
 use std::alloc::{AllocError, Global};
@@ -51,12 +53,49 @@ impl Ready {
     fn kept(&self, alloc: Global, kept: Option<Kept>) -> Result<Kept, AllocError> {
         let vars = self.vars as usize;
         if let Some(old) = kept {
-            if old.guide.serves(vars, &self.hints) {
+            if old.question.guide.serves(vars, &self.hints) {
                 return Ok(old);
             }
+            drop(old);
         }
         let codes = &self.codes;
         Kept::new(alloc, vars, codes, &self.hints)
+    }
+
+    // Takes a question: its clauses, and where to look.
+    fn pose(&self, alloc: Global, question: &mut Question, own: &Cnf) -> Result<(), AllocError>
+        requires { question.old.own ≡ [] }
+        ensures value { OnOk result (signed_clauses question.new.own ≡ own.now.clauses) }
+        ensures within { OnOk result (AreWithin own.now.vars question.new.own) }
+    {
+        let vars = own.vars();
+        add_codes(own, vars, &mut question.clause, &mut question.own)?;
+        let first = self.codes.len();
+        question
+            .guide
+            .begin(alloc, vars as usize, &self.hints, &question.own, first)
+    }
+
+    // Empties what is kept, and takes a question.
+    fn fill(&self, alloc: Global, kept: &mut Kept, own: &Cnf) -> Result<(), AllocError>
+        ensures { OnOk result (IsPosed own.now kept.new) }
+    {
+        kept.empty(alloc, own.vars() as usize)?;
+        self.pose(alloc, &mut kept.question, own)
+    }
+
+    // What is kept, with a question.
+    fn posed(&self, alloc: Global, kept: Option<Kept>, own: &Cnf) -> Result<Kept, AllocError>
+        ensures { IfOk result (IsPosed own.now) }
+    {
+        let mut kept = self.kept(alloc, kept)?;
+        match self.fill(alloc, &mut kept, own) {
+            Ok(()) => Ok(kept),
+            Err(e) => {
+                drop(kept);
+                Err(e)
+            }
+        }
     }
 
     // Decides over codes, in the memory of earlier questions.
@@ -67,39 +106,22 @@ impl Ready {
         own: &Cnf,
     ) -> Result<Outcome, AllocError>
         requires { self.now.vars ≤ own.now.vars }
-        ensures { IfOk result (IsDecided (joined self.now own.now)) }
+        ensures outcome { IfOk result (IsOutcome (joined self.now own.now)) }
+        ensures few { OnOk result (own.now.vars ≤ 2147483647) }
     {
-        let vars = own.vars();
-        let kept = self.kept(alloc, work.kept.take())?;
         let Kept {
-            own: mut codes,
-            mut clause,
-            learned,
-            trail,
-            mut guide,
-        } = kept.emptied(alloc, vars as usize)?;
-        add_codes(own, vars, &mut clause, &mut codes)?;
-        guide.begin(alloc, vars as usize, &self.hints, &codes, self.codes.len())?;
-        let Decided {
-            outcome,
-            learned,
-            trail,
-        } = decide(
+            mut question,
+            memory,
+        } = self.posed(alloc, work.kept.take(), own)?;
+        let Decided { outcome, memory } = solve_codes(
             alloc,
-            vars as usize,
+            own.vars() as usize,
             &self.codes,
-            &codes,
-            learned,
-            trail,
-            &mut guide,
+            &question.own,
+            memory,
+            &mut question.guide,
         )?;
-        work.kept = Some(Kept {
-            own: codes,
-            clause,
-            learned,
-            trail,
-            guide,
-        });
+        work.keep(Kept { question, memory });
         Ok(outcome)
     }
 
@@ -115,10 +137,9 @@ impl Ready {
         requires { self.now.vars ≤ own.now.vars }
         ensures { IfOk result (IsAnswer (joined self.now own.now)) }
     {
-        let outcome = self.decide_in(alloc, work, own)?;
-        match outcome {
+        match self.decide_in(alloc, work, own)? {
             Outcome::Sat(row) => Ok(Answer::Sat(bits_of(alloc, &row)?)),
-            Outcome::Unsat(lines) => Ok(Answer::Unsat(log_of(alloc, &lines)?)),
+            Outcome::Unsat(log) => Ok(Answer::Unsat(log)),
         }
     }
 
@@ -128,6 +149,8 @@ impl Ready {
         ensures { IfOk result (IsAnswer (joined self.now own.now)) }
     {
         let mut work = Workspace::new();
-        self.solve_in(alloc, &mut work, own)
+        let answer = self.solve_in(alloc, &mut work, own);
+        drop(work);
+        answer
     }
 }

@@ -6,65 +6,54 @@ ghost use Rattle.sat_core.specs.Solving.{Keeps};
 ghost use Rattle.sat_trail.specs.Looking.{IsFound};
 ghost use Rattle.sat_core.specs.Watching.{Grows, HasSwept};
 
-use crate::solving::{Solver, add_implied};
-use cnf_store::Joined;
+use crate::solving::{Solver, imply};
 use sat_guide::{Guide, Near, Sweep, Watches};
 use sat_trail::{Found, complement};
 use std::alloc::{AllocError, Global};
 
-// What the trail says of clause `number`.
-fn inspect_in(vars: usize, formula: &Joined, s: &Solver, number: usize) -> Found
-    requires keeps { Keeps vars formula.now s.now }
-    requires few { vars < 2 ^ 31 }
+// What the trail says of a clause, counted from 0.
+fn inspect_in(s: &Solver, number: usize) -> Found
+    requires keeps { Keeps s.now }
     requires number { number < length s.now.db }
     ensures { IsFound s.now.trail.lits.items s.now.trail.at.items (clause_at s.now.db (number + 1)) result }
 {
     s.trail.inspect(s.db.get(number))
 }
 
-// Takes what a clause implies, or finds that it is false.
-fn settle(
-    vars: usize,
-    formula: &Joined,
-    s: &mut Solver,
-    number: usize,
-) -> Result<Option<usize>, AllocError>
-    requires keeps { Keeps vars formula.now s.old }
-    requires few { vars < 2 ^ 31 }
-    ensures { IfOk result (HasSwept vars formula.now s.old s.new) }
+// Takes what a clause, counted from 0, implies, or finds that it is false: then it is named as reasons are, from 1 on.
+fn settle(s: &mut Solver, number: usize) -> Option<u64>
+    requires { Keeps s.old }
+    ensures { HasSwept s.old s.new result }
 {
     if number >= s.db.len() {
-        return Ok(None);
+        return None;
     }
-    match inspect_in(vars, formula, s, number) {
+    match inspect_in(s, number) {
         Found::Unit(lit) => {
-            add_implied(vars, formula, s, lit, number as u64 + 1)?;
-            Ok(None)
+            imply(s, lit, number as u64 + 1);
+            None
         }
-        Found::Wrong => Ok(Some(number)),
-        Found::Holds => Ok(None),
-        Found::Open => Ok(None),
+        Found::Wrong => Some(number as u64 + 1),
+        Found::Holds => None,
+        Found::Open => None,
     }
 }
 
 // Goes along the clauses that watch a literal that fell.
 fn go_along(
-    vars: usize,
-    formula: &Joined,
     s: &mut Solver,
     w: &mut Watches,
     near: &Near,
     sweep: &mut Sweep,
-) -> Result<Option<usize>, AllocError>
-    requires keeps { Keeps vars formula.now s.old }
-    requires few { vars < 2 ^ 31 }
-    ensures { IfOk result (HasSwept vars formula.now s.old s.new) }
+) -> Result<Option<u64>, AllocError>
+    requires { Keeps s.old }
+    ensures { IfOk result (HasSwept s.old s.new) }
 {
     for _ in 0..sweep.len() {
         let Some(number) = w.advance(sweep, &s.trail.values, near)? else {
             return Ok(None);
         };
-        let found = settle(vars, formula, s, number)?;
+        let found = settle(s, number);
         if found.is_some() {
             return Ok(found);
         }
@@ -72,80 +61,55 @@ fn go_along(
     Ok(None)
 }
 
-// The same from the first of them on.
+// Goes along these watches of a literal that fell, from the first on.
 fn sweep(
     alloc: Global,
-    vars: usize,
-    formula: &Joined,
     s: &mut Solver,
     w: &mut Watches,
     near: &Near,
     fallen: u32,
-) -> Result<Option<usize>, AllocError>
-    requires keeps { Keeps vars formula.now s.old }
-    requires few { vars < 2 ^ 31 }
-    ensures { IfOk result (HasSwept vars formula.now s.old s.new) }
+) -> Result<Option<u64>, AllocError>
+    requires { Keeps s.old }
+    ensures { IfOk result (HasSwept s.old s.new) }
 {
     let mut walk = w.begin(alloc, fallen);
-    let found = go_along(vars, formula, s, w, near, &mut walk)?;
+    let found = go_along(s, w, near, &mut walk)?;
     w.end(walk);
     Ok(found)
 }
 
-// The same of all clauses that are watched.
+// Goes along all watches of a literal that fell: those of the shared clauses, then the others.
 fn sweep_all(
     alloc: Global,
-    vars: usize,
-    formula: &Joined,
     s: &mut Solver,
     guide: &mut Guide,
     fallen: u32,
-) -> Result<Option<usize>, AllocError>
-    requires keeps { Keeps vars formula.now s.old }
-    requires few { vars < 2 ^ 31 }
-    ensures { IfOk result (HasSwept vars formula.now s.old s.new) }
+) -> Result<Option<u64>, AllocError>
+    requires { Keeps s.old }
+    ensures { IfOk result (HasSwept s.old s.new) }
 {
-    let found = sweep(
-        alloc,
-        vars,
-        formula,
-        s,
-        &mut guide.shared,
-        &guide.near,
-        fallen,
-    )?;
+    let found = sweep(alloc, s, &mut guide.shared, &guide.near, fallen)?;
     if found.is_some() {
         return Ok(found);
     }
-    sweep(
-        alloc,
-        vars,
-        formula,
-        s,
-        &mut guide.extra,
-        &guide.near,
-        fallen,
-    )
+    sweep(alloc, s, &mut guide.extra, &guide.near, fallen)
 }
 
 /// Takes all that follows from this place of the trail on, or finds a clause that is false.
 pub fn propagate(
     alloc: Global,
-    vars: usize,
-    formula: &Joined,
     s: &mut Solver,
     guide: &mut Guide,
     from: usize,
-) -> Result<Option<usize>, AllocError>
-    requires keeps { Keeps vars formula.now s.old }
-    requires few { vars < 2 ^ 31 }
-    ensures { IfOk result (HasSwept vars formula.now s.old s.new) }
+) -> Result<Option<u64>, AllocError>
+    requires { Keeps s.old }
+    ensures { IfOk result (HasSwept s.old s.new) }
 {
     let mut head = from;
     'queue: while head < s.trail.lits.len() {
         let lit = s.trail.lits[head];
         head += 1;
-        let found = sweep_all(alloc, vars, formula, s, guide, complement(lit))?;
+        let found = sweep_all(alloc, s, guide, complement(lit))?;
         if found.is_some() {
             return Ok(found);
         }
@@ -154,40 +118,23 @@ pub fn propagate(
 }
 
 // Reads these clauses, counted from 0, and takes what is implied of variables to which the search goes.
-fn read_units(
-    vars: usize,
-    formula: &Joined,
-    s: &mut Solver,
-    near: &Near,
-    units: &[u32],
-) -> Result<(), AllocError>
-    requires few { vars < 2 ^ 31 }
-    requires keeps { Keeps vars formula.now s.old }
-    ensures { OnOk result (Grows vars formula.now s.old s.new) }
+fn read_units(s: &mut Solver, near: &Near, units: &[u32])
+    requires { Keeps s.old }
+    ensures { Grows s.old s.new }
 {
     for unit in units {
-        read_unit(vars, formula, s, near, *unit as usize)?;
+        read_unit(s, near, *unit as usize);
     }
-    Ok(())
 }
 
-// The same of one clause.
-fn read_unit(
-    vars: usize,
-    formula: &Joined,
-    s: &mut Solver,
-    near: &Near,
-    number: usize,
-) -> Result<(), AllocError>
-    requires few { vars < 2 ^ 31 }
-    requires keeps { Keeps vars formula.now s.old }
-    ensures { OnOk result (Grows vars formula.now s.old s.new) }
+// Reads a clause, and takes what is implied of a variable to which the search goes.
+fn read_unit(s: &mut Solver, near: &Near, number: usize)
+    requires { Keeps s.old }
+    ensures { Grows s.old s.new }
 {
-    if !is_near(s, near, number) {
-        return Ok(());
+    if is_near(s, near, number) {
+        settle(s, number);
     }
-    settle(vars, formula, s, number)?;
-    Ok(())
 }
 
 // Whether the search goes to the variable of a clause's first literal.
@@ -200,36 +147,23 @@ fn is_near(s: &Solver, near: &Near, number: usize) -> bool {
 }
 
 /// Reads the clauses of at most one literal, and takes what is implied.
-pub fn read_all_units(
-    vars: usize,
-    formula: &Joined,
-    s: &mut Solver,
-    guide: &Guide,
-) -> Result<(), AllocError>
-    requires few { vars < 2 ^ 31 }
-    requires keeps { Keeps vars formula.now s.old }
-    ensures { OnOk result (Grows vars formula.now s.old s.new) }
+pub fn read_all_units(s: &mut Solver, guide: &Guide)
+    requires { Keeps s.old }
+    ensures { Grows s.old s.new }
 {
-    read_units(vars, formula, s, &guide.near, guide.shared_units.as_slice())?;
-    read_units(vars, formula, s, &guide.near, guide.units.as_slice())
+    read_units(s, &guide.near, guide.shared_units.as_slice());
+    read_units(s, &guide.near, guide.units.as_slice());
 }
 
 /// Goes to all variables, where the search kept to those on which the question rests and is done with them: takes all that
 /// then follows, or finds a clause that is false.
-pub fn open_up(
-    alloc: Global,
-    vars: usize,
-    formula: &Joined,
-    s: &mut Solver,
-    guide: &mut Guide,
-) -> Result<Option<usize>, AllocError>
-    requires keeps { Keeps vars formula.now s.old }
-    requires few { vars < 2 ^ 31 }
-    ensures { IfOk result (HasSwept vars formula.now s.old s.new) }
+pub fn open_up(alloc: Global, s: &mut Solver, guide: &mut Guide) -> Result<Option<u64>, AllocError>
+    requires { Keeps s.old }
+    ensures { IfOk result (HasSwept s.old s.new) }
 {
     if !guide.opens(&s.trail.values) {
         return Ok(None);
     }
-    read_all_units(vars, formula, s, guide)?;
-    propagate(alloc, vars, formula, s, guide, 0)
+    read_all_units(s, guide);
+    propagate(alloc, s, guide, 0)
 }

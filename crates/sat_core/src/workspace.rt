@@ -1,7 +1,8 @@
 //! The memory of a solver, kept from question to question.
 
-ghost use Rattle.std.specs.Prelude.{◌≡◌, ◌<◌, ◌^◌, [], IfOk, length};
+ghost use Rattle.std.specs.Prelude.{◌≡◌, ◌<◌, ◌^◌, [], IfOk, OnOk, length};
 
+use crate::analysis::Analysis;
 use cnf_store::Arena;
 use sat_guide::{Guide, Hints};
 use sat_trail::Trail;
@@ -19,16 +20,34 @@ impl Workspace {
     pub fn new() -> Workspace {
         Workspace { kept: None }
     }
+
+    /// Keeps it for the next question.
+    pub(crate) fn keep(&mut self, kept: Kept) {
+        self.kept.insert(kept);
+    }
 }
 
-/// What is kept: a question's own clauses by codes, what it learned, its trail, and where to look.
+/// What is kept: of a question, and of its search.
 #[derive(Drop)]
 pub(crate) struct Kept {
+    pub question: Question,
+    pub memory: Memory,
+}
+
+/// A question's own clauses by codes, and where to look.
+#[derive(Drop)]
+pub(crate) struct Question {
     pub own: Arena<u32>,
     pub clause: Vec<u32>,
+    pub guide: Guide,
+}
+
+/// What a search learned, its trail, and what it analysed conflicts in.
+#[derive(Drop)]
+pub(crate) struct Memory {
     pub learned: Arena<u32>,
     pub trail: Trail,
-    pub guide: Guide,
+    pub analysis: Analysis,
 }
 
 impl Kept {
@@ -41,53 +60,47 @@ impl Kept {
     ) -> Result<Kept, AllocError>
         requires { vars < 2 ^ 31 }
     {
+        let guide = Guide::new(alloc, vars, clauses, hints)?;
+        let trail = Trail::new(alloc, vars)?;
         Ok(Kept {
-            own: Arena::new(alloc),
-            clause: Vec::new(alloc),
-            learned: Arena::new(alloc),
-            trail: Trail::new(alloc, vars)?,
-            guide: Guide::new(alloc, vars, clauses, hints)?,
+            question: Question {
+                own: Arena::new(alloc),
+                clause: Vec::new(alloc),
+                guide,
+            },
+            memory: Memory {
+                learned: Arena::new(alloc),
+                trail,
+                analysis: Analysis::new(alloc),
+            },
         })
     }
 
-    /// The same, emptied for a question over so many variables.
-    pub fn emptied(self, alloc: Global, vars: usize) -> Result<Kept, AllocError>
+    /// Empties it for a question over so many variables.
+    pub fn empty(&mut self, alloc: Global, vars: usize) -> Result<(), AllocError>
         requires { vars < 2 ^ 31 }
-        ensures own { IfOk result (λ k. k.own ≡ []) }
-        ensures learned { IfOk result (λ k. k.learned ≡ []) }
-        ensures trail { IfOk result (λ k. k.trail.lits.items ≡ []) }
-        ensures size { IfOk result (λ k. length k.trail.at.items ≡ vars) }
+        ensures own { OnOk result (self.new.question.own ≡ []) }
+        ensures learned { OnOk result (self.new.memory.learned ≡ []) }
+        ensures trail { OnOk result (self.new.memory.trail.lits.items ≡ []) }
+        ensures size { OnOk result (length self.new.memory.trail.at.items ≡ vars) }
     {
-        let Kept {
-            mut own,
-            clause,
-            mut learned,
-            trail,
-            mut guide,
-        } = self;
-        own.cut(0);
-        learned.cut(0);
-        guide.end(&trail.lits)?;
-        Ok(Kept {
-            own,
-            clause,
-            learned,
-            trail: empty(alloc, trail, vars)?,
-            guide,
-        })
+        self.question.own.cut(0);
+        self.memory.learned.cut(0);
+        self.question.guide.end(&self.memory.trail.lits)?;
+        empty(alloc, &mut self.memory.trail, vars)
     }
 }
 
-// An empty trail for so many variables, in the memory of this one where it has as many.
-fn empty(alloc: Global, trail: Trail, vars: usize) -> Result<Trail, AllocError>
+// Empties a trail for so many variables, in its memory where it has as many.
+fn empty(alloc: Global, trail: &mut Trail, vars: usize) -> Result<(), AllocError>
     requires { vars < 2 ^ 31 }
-    ensures trail { IfOk result (λ t. t.lits.items ≡ []) }
-    ensures size { IfOk result (λ t. length t.at.items ≡ vars) }
+    ensures trail { OnOk result (trail.new.lits.items ≡ []) }
+    ensures size { OnOk result (length trail.new.at.items ≡ vars) }
 {
-    let mut old = trail;
-    if old.at.len() != vars {
-        return Trail::new(alloc, vars);
+    if trail.at.len() == vars {
+        trail.clear();
+    } else {
+        *trail = Trail::new(alloc, vars)?;
     }
-    old.clear();
-    Ok(old)
+    Ok(())
 }

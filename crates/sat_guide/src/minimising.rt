@@ -33,13 +33,20 @@ pub struct Minimiser {
 }
 
 impl Minimiser {
-    /// Knows nothing of this many places.
-    pub fn new(alloc: Global, places: usize) -> Result<Minimiser, AllocError> {
-        Ok(Minimiser {
-            found: vec![in alloc; Found::Nothing; places]?,
+    /// Knows of no place.
+    pub fn new(alloc: Global) -> Minimiser {
+        Minimiser {
+            found: Vec::new(alloc),
             path: Vec::new(alloc),
             left: MOST_READ,
-        })
+        }
+    }
+
+    /// Begins a conflict: nothing is known of this many places. It works in the memory of earlier conflicts.
+    pub fn begin(&mut self, places: usize) -> Result<(), AllocError> {
+        self.found.clear();
+        self.left = MOST_READ;
+        self.found.resize(places, Found::Nothing)
     }
 
     /// Whether the literal at a place follows from those at marked places below it.

@@ -3,6 +3,7 @@ ghost use Rattle.std.specs.Prelude.{◌≡◌, ◌≤◌, ◌<◌, ◌+◌, ◌^
 ghost use Rattle.std.specs.List.{range_with_len};
 ghost use Rattle.circ_model.specs.Meaning.{IsSoundPair, places_of};
 ghost use Rattle.sat_log.specs.Pieces.{pieces, last_of};
+ghost use Rattle.frame_unroll.specs.Unrolled.{from_reset, after_classes};
 ghost use Rattle.log_check.specs.FirstBad.{Decides};
 ghost use Rattle.corr_certificate.specs.declared.fault.Checked.TheVariants.{No};
 ghost use Rattle.corr_certificate.specs.Parts.{ReadsEnd, ReadsMembers};
@@ -70,8 +71,38 @@ fn read_members(
     requires few { first + length bytes.now < 2 ^ 64 }
     ensures { IfOk result (λ r. ReadsMembers product.now k classes.now (length (last_of 10 bytes.now) == 0) r (range_with_len 0 (places_of product.now)) first (pieces 10 bytes.now)) }
 {
-    let mut base = Unrolled::reset_frames(alloc, product, k)?;
-    let mut step = Unrolled::step_frames(alloc, product, k, classes)?;
+    let mut frames = Asked {
+        base: Unrolled::reset_frames(alloc, product, k)?,
+        step: Unrolled::step_frames(alloc, product, k, classes)?,
+    };
+    read_parts(alloc, product, k, classes, &mut frames, bytes, first)
+}
+
+// The frames of the questions about a needed pair: k from reset, and k + 1 in all but the last of which the classes hold.
+#[derive(Drop)]
+struct Asked<'p> {
+    base: Unrolled<'p>,
+    step: Unrolled<'p>,
+}
+
+// Reads the parts of all members, and the end, over these frames.
+fn read_parts(
+    alloc: Global,
+    product: &Product,
+    k: u32,
+    classes: &Classes,
+    frames: &mut Asked<'_>,
+    bytes: &[u8],
+    first: u64,
+) -> Result<Checked, AllocError>
+    requires depth { 1 ≤ k }
+    requires deep { k ≤ 16 }
+    requires places { length classes.now.least ≡ places_of product.now }
+    requires base { frames.old.base ≡ from_reset product.now k }
+    requires step { frames.old.step ≡ after_classes product.now k classes.now }
+    requires few { first + length bytes.now < 2 ^ 64 }
+    ensures { IfOk result (λ r. ReadsMembers product.now k classes.now (length (last_of 10 bytes.now) == 0) r (range_with_len 0 (places_of product.now)) first (pieces 10 bytes.now)) }
+{
     let mut rest = bytes;
     let mut line = first;
     for member in 0..product.len() {
@@ -79,7 +110,15 @@ fn read_members(
             continue;
         }
         match check_member(
-            alloc, product, k, classes, member, &mut base, &mut step, rest, line,
+            alloc,
+            product,
+            k,
+            classes,
+            member,
+            &mut frames.base,
+            &mut frames.step,
+            rest,
+            line,
         )? {
             Ok(at) => {
                 line = at.line;

@@ -1,5 +1,5 @@
 //! The parts of a needed pair: the line that begins a part, its log, and whether that is accepted.
-ghost use Rattle.std.specs.Prelude.{◌≡◌, ◌≤◌, ◌<◌, ◌+◌, ◌^◌, length, IfOk, IfErr, None};
+ghost use Rattle.std.specs.Prelude.{◌≡◌, ◌≤◌, ◌<◌, ◌+◌, ◌^◌, [], length, IfOk, IfErr, None};
 ghost use Rattle.circ_model.specs.Meaning.{places_of};
 ghost use Rattle.circ_model.specs.Correspondence.{IsLiteral};
 ghost use Rattle.class_partition.specs.Classes.{needed};
@@ -35,8 +35,8 @@ fn begins(product: &Product, keyword: &[u8], member: u32, line: &[u8]) -> Option
     Some(named(product, name)? == member)
 }
 
-// Reads one part from this line on: its log is accepted, and reading goes on at a line with the bytes from there on; or it
-// has a fault.
+// Reads one part from this line on, its log into one that is empty: it is accepted, and reading goes on at a line with the
+// bytes from there on; or it has a fault.
 fn read_log_of<'a>(
     alloc: Global,
     product: &Product,
@@ -45,8 +45,10 @@ fn read_log_of<'a>(
     formula: &Cnf,
     bytes: &'a [u8],
     first: u64,
+    log: &mut Log,
 ) -> Result<Result<Cursor<'a>, CertFault>, AllocError>
     requires few { first + length bytes.now < 2 ^ 64 }
+    requires empty { log.old ≡ [] }
     ensures on { IfOk result (λ o. IfOk o (λ r. IsOn product.now keyword.now member formula.now first (pieces 10 bytes.entry.now) r.line (pieces 10 r.rest.now))) }
     ensures last { IfOk result (λ o. IfOk o (λ r. last_of 10 r.rest.now ≡ last_of 10 bytes.entry.now)) }
     ensures lines { IfOk result (λ o. IfOk o (λ r. r.line + length r.rest.now ≤ first + length bytes.entry.now)) }
@@ -60,14 +62,13 @@ fn read_log_of<'a>(
         Some(false) => return Ok(Err(fault(CertKind::Order, first))),
         Some(true) => {}
     }
-    let mut log = Log::new(alloc);
-    let end = read_part(alloc, rest, first + 1, &mut log)?;
+    let end = read_part(alloc, rest, first + 1, log)?;
     match end.stop {
         Stop::Cut => return Ok(Err(fault(CertKind::Truncated, end.line))),
         Stop::Wrong => return Ok(Err(fault(CertKind::Line, end.line))),
         Stop::Ends => {}
     }
-    match first_bad(alloc, formula, &log)? {
+    match first_bad(alloc, formula, log)? {
         None => Ok(Ok(Cursor {
             line: end.line,
             rest: end.rest,
@@ -103,7 +104,19 @@ fn read_asked<'a>(
     ensures frames { IfOk result (λ o. frames.new ≡ frames.old) }
 {
     frames.ask(alloc, a, b, first, last)?;
-    let read = read_log_of(alloc, product, keyword, member, frames.cnf(), bytes, line)?;
+    let mut log = Log::new(alloc);
+    let read = read_log_of(
+        alloc,
+        product,
+        keyword,
+        member,
+        frames.cnf(),
+        bytes,
+        line,
+        &mut log,
+    );
+    drop(log);
+    let read = read?;
     frames.drop_question();
     Ok(read)
 }

@@ -1,13 +1,8 @@
-use Rattle.std.proofs.Common.{arith, ◌≡◌, ◌<◌, ◌+◌, ◌-◌, ◌*◌, ◌^◌, ℕ, List, length, ◌∙◌, ap, sym, subst}
-use Rattle.sat_core.specs.declared.solving.Gone.{Gone}
-use Rattle.sat_trail.specs.declared.trail.Trail.{Trail}
-use Rattle.sat_core.specs.declared.solving.Outcome.{Outcome}
-use Rattle.sat_core.specs.declared.solving.Outcome.TheVariants.{Sat, Unsat}
-use Rattle.sat_core.specs.Solving.{HasGone, IsOutcome, IsRowOf, Standing}
+use Rattle.std.proofs.Common.{arith, ◌≡◌, ◌<◌, ◌+◌, ◌-◌, ◌*◌, ◌^◌, ℕ, ◌∙◌, ap, sym, subst}
+use Rattle.sat_core.specs.declared.solving.Solver.{Solver}
+use Rattle.sat_core.specs.Solving.{HasStepped, Advances}
 use Rattle.sat_trail.specs.Rank.{rank}
 use Rattle.sat_trail.proofs.Ranks.{rank_below}
-use Rattle.sat_core.proofs.Deriving.{accepted_none}
-use Rattle.sat_core.proofs.Concluding.{standing_satisfies}
 use Rattle.sat_core.proofs.solving.search.Goals as goal
 
 falls : (k n a b : ℕ) → a < b → b < n → k * n + (n - b) < k * n + (n - a)
@@ -22,26 +17,25 @@ over r n a b h k l =
     split : (x n : ℕ) → (x + 1) * n ≡ x * n + n
     split x n = omega arith
 
+-- what is left, where the trail ranks higher
+left_falls : (k : ℕ) (old new : Solver) → Advances old new → k * 3 ^ new.vars + (3 ^ new.vars - rank new.vars new.trail.reasons.items) < k * 3 ^ old.vars + (3 ^ old.vars - rank old.vars old.trail.reasons.items)
+left_falls k old new h =
+    let r = rank new.vars new.trail.reasons.items in
+    let below = rank_below new.vars new.trail.reasons.items in
+    subst (λ (n : ℕ). k * 3 ^ new.vars + (3 ^ new.vars - r) < k * 3 ^ n + (3 ^ n - rank old.vars old.trail.reasons.items)) h.vars
+    (falls k (3 ^ new.vars) (rank old.vars old.trail.reasons.items) r h.rank below)
+
+-- where a restart is taken
+left_over : (k : ℕ) (old new : Solver) → k < 1000 → new.vars ≡ old.vars → (1000 - (k + 1)) * 3 ^ new.vars + (3 ^ new.vars - rank new.vars new.trail.reasons.items) < (1000 - k) * 3 ^ old.vars + (3 ^ old.vars - rank old.vars old.trail.reasons.items)
+left_over k old new lt e =
+    subst (λ (n : ℕ). (1000 - (k + 1)) * 3 ^ n + (3 ^ n - rank new.vars new.trail.reasons.items) < (1000 - k) * 3 ^ old.vars + (3 ^ old.vars - rank old.vars old.trail.reasons.items)) (sym e)
+    (over k (3 ^ old.vars) (rank old.vars old.trail.reasons.items) (rank new.vars new.trail.reasons.items) lt (rank_below old.vars old.trail.reasons.items)
+    (subst (λ (n : ℕ). rank new.vars new.trail.reasons.items < 3 ^ n) e (rank_below new.vars new.trail.reasons.items)))
+
 pub steps-smaller : goal.steps-smaller
 steps-smaller c =
-    let h = subst (λ (g : Gone). HasGone c.args.vars c.args.formula.now c.steps.s c.step.new.s g) c.in-On.is c.in_ok-step.ensures in
-    falls (1000 - c.steps.restarts) (3 ^ c.args.vars) (rank c.args.vars c.steps.s.trail.reasons.items) (rank c.args.vars c.step.new.s.trail.reasons.items) h.1 (rank_below c.args.vars c.step.new.s.trail.reasons.items)
+    let h = subst (HasStepped c.steps.s c.step.new.s) c.in-On.is c.in_ok-step.ensures in
+    left_falls (1000 - c.steps.restarts) c.steps.s c.step.new.s h
 
 pub steps-smaller-then-restarts-lt1000 : goal.steps-smaller-then-restarts-lt1000
-steps-smaller-then-restarts-lt1000 c =
-    over c.steps.restarts (3 ^ c.args.vars) (rank c.args.vars c.steps.s.trail.reasons.items) (rank c.args.vars c.restart.new.s.trail.reasons.items) c.if-restarts-lt1000.true (rank_below c.args.vars c.steps.s.trail.reasons.items) (rank_below c.args.vars c.restart.new.s.trail.reasons.items)
-
-pub returns-in-Refuted : goal.returns-in-Refuted
-returns-in-Refuted c =
-    let h = subst (λ (g : Gone). HasGone c.args.vars c.args.formula.now c.steps.s c.step.new.s g) c.in-Refuted.is c.in_ok-step.ensures in
-    subst (IsOutcome c.args.vars c.args.formula.now) (sym c.refuted.ensures) (h, λ row sat. accepted_none c.args.vars c.args.formula.now c.step.new.s.log.items h row sat)
-
--- the row of a trail on which every clause stands
-row_outcome : (vars : ℕ) (formula : List (List ℕ)) (trail : Trail) (o : Outcome) → length trail.at.items ≡ vars → Standing trail.lits.items formula → IsRowOf trail o → IsOutcome vars formula o
-row_outcome vars formula trail (Sat row) size all r = (r.0 ∙ size, standing_satisfies trail.lits.items row.items formula r.1 all)
-row_outcome vars formula trail (Unsat log) size all r = absurd r
-
-pub returns-in-Full : goal.returns-in-Full
-returns-in-Full c =
-    let h = subst (λ (g : Gone). HasGone c.args.vars c.args.formula.now c.steps.s c.step.new.s g) c.in-Full.is c.in_ok-step.ensures in
-    row_outcome c.args.vars c.args.formula.now c.step.new.s.trail c.in_ok-satisfied-in-Full.field-0.outcome h.1 h.0 c.in_ok-satisfied-in-Full.ensures
+steps-smaller-then-restarts-lt1000 c = left_over c.steps.restarts c.steps.s c.restart.new.s c.if-restarts-lt1000.true c.restart.ensures.vars

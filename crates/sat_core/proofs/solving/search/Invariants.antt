@@ -1,10 +1,14 @@
-use Rattle.std.proofs.Common.{◌-◌, ◌+◌, ◌*◌, ◌^◌}
+use Rattle.std.proofs.Common.{◌≡◌, ◌-◌, ◌+◌, ◌*◌, ◌^◌}
 use Rattle.sat_core.specs.Solving.{Keeps}
 use Rattle.sat_trail.specs.Rank.{rank}
 use Rattle.sat_core.proofs.solving.search.Given as goal
 
 abbrev pub invariant-steps : goal.invariant-steps
-invariant-steps l = Keeps l.vars l.formula l.s
+invariant-steps l = record {
+  keeps : Keeps l.s;
+  vars : l.s.vars ≡ l.fn.s.vars;
+  formula : l.s.formula ≡ l.fn.s.formula;
+}
 
 abbrev pub decreases-steps : goal.decreases-steps
-decreases-steps l = (1000 - l.restarts) * 3 ^ l.vars + (3 ^ l.vars - rank l.vars l.s.trail.reasons.items)
+decreases-steps l = (1000 - l.restarts) * 3 ^ l.s.vars + (3 ^ l.s.vars - rank l.s.vars l.s.trail.reasons.items)

@@ -3,7 +3,7 @@ use Rattle.sat_core.specs.Watching.{Grows}
 use Rattle.sat_core.proofs.watching.propagate.Given as goal
 
 abbrev pub invariant-queue : goal.invariant-queue
-invariant-queue l = Grows l.vars l.formula l.initial.s l.s
+invariant-queue l = Grows l.initial.s l.s
 
 abbrev pub decreases-queue : goal.decreases-queue
-decreases-queue l = l.vars - l.head
+decreases-queue l = l.s.vars - l.head
