@@ -6,3 +6,4 @@ pub mod Staying
 pub mod Going
 pub mod Mapped
 pub mod Merges
+pub mod InFrame

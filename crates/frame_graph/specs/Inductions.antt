@@ -33,3 +33,7 @@ HoldsInFrame i t p = (run : Path) → IsBaseRun i.pair i.k run → HoldsIn (row_
 -- in each of its frames
 abbrev pub BasePasses : Induction → ℕ → Type 0
 BasePasses i p = (t : ℕ) → t < i.k → HoldsInFrame i t p
+
+-- two literals of the pair are equal in one frame of each run of k frames
+abbrev pub LiteralsHoldInFrame : Pair → ℕ → ℕ → ℕ → ℕ → Type 0
+LiteralsHoldInFrame pair k t a b = (run : Path) → IsBaseRun pair k run → HoldsIn (row_at pair run t) (a, b)

@@ -3,7 +3,8 @@
 //! The leaves stay, and so do nodes and merges: for another version of the classes only the literals are made anew, in one
 //! pass over the places, into the memory that is there.
 ghost use Rattle.std.specs.Prelude.{All, ◌≡◌, ◌<◌, ◌≤◌, ◌+◌, ◌*◌, ◌/◌, ◌^◌, ℕ, List, Bool, [], false, IsTrue, IfOk, OnOk, length, slice_index};
-ghost use Rattle.circ_model.specs.Meaning.{places_of};
+ghost use Rattle.circ_model.specs.Correspondence.{IsLiteral};
+ghost use Rattle.circ_model.specs.Meaning.{Path, literal_value, places_of, row_at, value_in};
 ghost use Rattle.class_partition.specs.Classes.{Classes as AnyClasses};
 ghost use Rattle.and_graph.specs.declared.node.Node.{Node};
 ghost use Rattle.and_graph.specs.Graphs.{AreEqual, GrowsTo, IsGraph, IsLeaf, node_at};
@@ -11,13 +12,13 @@ ghost use Rattle.frame_graph.specs.Decoded.{IsInputOf, StandsFor};
 ghost use Rattle.frame_graph.specs.Frames.{frame_of};
 ghost use Rattle.frame_graph.specs.Inductions.{BasePasses, HoldsInFrame, StepPasses};
 ghost use Rattle.frame_graph.specs.Leaves.{AreLeaves, leaf_count};
-ghost use Rattle.frame_graph.specs.Maps.{AreWithin, IsResetMap, IsStepMap, induction_of};
+ghost use Rattle.frame_graph.specs.Maps.{AreWithin, IsResetMap, IsStepMap, Shows, induction_of};
 ghost use Rattle.frame_graph.specs.Owed.{AreEqualWhere, IsOwed};
 
 use crate::frame::Frame;
 use crate::frames::{push_reset_frames, push_step_frames};
 use crate::leaf::Leaf;
-use crate::literals::{class_literal, needed_literals};
+use crate::literals::{class_literal, literal_from, needed_literals};
 use crate::own_literals::own_literal_again;
 use crate::places::push_own_places;
 use and_graph::Graph;
@@ -76,7 +77,7 @@ impl<'p> FrameMap<'p> {
         graph: &mut Graph,
         frames: u32,
     ) -> Result<FrameMap<'p>, AllocError>
-        requires few { frames ≤ 17 }
+        requires few { frames ≤ 64 }
         ensures on { GrowsTo graph.old graph.new }
         ensures pair { IfOk result (λ m. m.leaves.pair ≡ product.entry.now) }
         ensures frames { IfOk result (λ m. m.leaves.frames ≡ frames) }
@@ -238,6 +239,18 @@ impl<'p> FrameMap<'p> {
         let site = self.frame_at(frame);
         let own = own_literal_again(&site, graph, self.literals.as_slice(), place)?;
         Ok((self.literals[site.begin + place as usize], own))
+    }
+
+    // The literal that a literal of the pair has in one frame from reset.
+    pub(crate) fn reset_literal(&self, frame: u32, lit: Lit) -> Lit
+        requires literal { IsLiteral self.now.leaves.pair lit }
+        requires frame { frame < self.now.depth }
+        requires size { length self.now.literals ≡ self.now.depth * places_of self.now.leaves.pair }
+        ensures within { (nodes : List Node) → AreWithin nodes self.now.literals → result / 2 < length nodes }
+        ensures value { (run : Path) (v : ℕ → Bool) → Shows self.now.leaves.pair self.now.literals run v → literal_value v result ≡ value_in (row_at self.now.leaves.pair run frame) lit }
+    {
+        let begin = frame as usize * self.product.len() as usize;
+        literal_from(self.literals.as_slice(), begin, lit)
     }
 
     /// The literals of a place and its class's least place in one frame from reset, at their relative phase: where they are

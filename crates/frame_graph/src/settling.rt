@@ -1,9 +1,10 @@
 //! Whether needed pairs pass, asked of the solver where hashing doesn't tell. What is found equal is merged into the graph, for
 //! ever and for each map over it: so a later pair costs less. (SAT sweeping: A. Kuehlmann, F. Krohm, DAC 1997.)
 ghost use Rattle.std.specs.Prelude.{◌≡◌, ◌<◌, ◌+◌, ◌*◌, ◌/◌, ℕ, IfNone, IfOk, length};
+ghost use Rattle.circ_model.specs.Correspondence.{IsLiteral};
 ghost use Rattle.circ_model.specs.Meaning.{places_of};
 ghost use Rattle.and_graph.specs.Graphs.{AreEqual};
-ghost use Rattle.frame_graph.specs.Inductions.{BasePasses, StepPasses};
+ghost use Rattle.frame_graph.specs.Inductions.{BasePasses, LiteralsHoldInFrame, StepPasses};
 ghost use Rattle.frame_graph.specs.Laws.{IsMerged};
 ghost use Rattle.frame_graph.specs.Maps.{IsResetMap, IsStepMap, induction_of};
 
@@ -40,6 +41,31 @@ fn settle(
 }
 
 impl<'p> FrameMap<'p> {
+    /// Whether two literals of the pair are equal in one frame from reset: none if so, on each run of so many frames as are mapped;
+    /// or else values of leaves under which they differ there, a hint that is to be simulated. What is found equal is merged. It
+    /// errs for want of memory.
+    pub fn settle_literals(
+        &self,
+        alloc: Global,
+        graph: &mut Graph,
+        asker: &mut Asker,
+        frame: u32,
+        a: Lit,
+        b: Lit,
+    ) -> Result<Option<Pattern>, AllocError>
+        requires left { IsLiteral self.now.leaves.pair a }
+        requires right { IsLiteral self.now.leaves.pair b }
+        requires frame { frame < self.now.depth }
+        requires map { IsResetMap graph.old self.now }
+        ensures merged { IsMerged graph.old graph.new }
+        ensures holds { IfOk result (λ found. IfNone found (LiteralsHoldInFrame self.now.leaves.pair self.now.depth frame a b)) }
+    {
+        let _nodes = graph.len();
+        let left = self.reset_literal(frame, a);
+        let right = self.reset_literal(frame, b);
+        settle(alloc, graph, asker, left, right)
+    }
+
     /// Whether a needed pair holds in each frame from reset: none if so, on each run; or else values of leaves under which it
     /// differs in some frame, a hint that is to be simulated. What is found equal is merged.
     pub fn settle_base(

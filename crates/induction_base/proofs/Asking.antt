@@ -28,7 +28,7 @@ not_both true false e d = cc
 not_both false true e d = cc
 not_both false false e d = cc
 
-zero_more : (t : ℕ) → 0 + t ≡ t
+pub zero_more : (t : ℕ) → 0 + t ≡ t
 zero_more t = omega arith
 
 -- a run of any length, with k rows

@@ -2,7 +2,7 @@
 use Rattle.std.specs.Prelude.{◌≡◌, ℕ, ◌<◌, length, Option, Some, None}
 use Rattle.circ_model.specs.Meaning.{Pair, Path, IsRun, row_at}
 use Rattle.circ_model.specs.Correspondence.{HoldsIn}
-use Rattle.frame_unroll.specs.Unrolled.{Differs}
+use Rattle.frame_unroll.specs.Unrolled.{Differs, Unrolling}
 use Rattle.frame_unroll.specs.declared.found.Seen.{Seen}
 
 -- two literals agree in each frame below a bound of every run
@@ -25,3 +25,7 @@ pub record IsLeastFrame (pair : Pair) (k a b bound : ℕ) (seen : Seen) : Type 0
 abbrev pub IsEarliest : Pair → ℕ → ℕ → ℕ → ℕ → Option Seen → Type 0
 IsEarliest pair k a b bound (Some seen) = IsLeastFrame pair k a b bound seen
 IsEarliest pair k a b bound None = HoldBelow pair a b bound
+
+-- frames that are made are these
+abbrev pub IsOf : Unrolling → Unrolling → Type 0
+IsOf frames made = made ≡ frames

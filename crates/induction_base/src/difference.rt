@@ -1,11 +1,11 @@
-//! The least difference: output by output, each asked only for the frames before the least that differs so far.
+//! The least difference: output by output, each asked only for the frames before the least that differs so far, and the solver
+//! only where a hashed graph of the frames leaves it open.
 ghost use Rattle.std.specs.Prelude.{◌<◌, ◌≤◌, IfOk};
 ghost use Rattle.circ_model.specs.Meaning.{outputs_of};
 ghost use Rattle.induction_base.specs.Least.{IsLeastOrNone, IsLeastOf};
 
-use crate::earliest::earliest;
 use crate::rows::first_rows;
-use frame_unroll::{Prepared, Workspace};
+use crate::search::Search;
 use product_machine::{Path, Product};
 use std::alloc::{AllocError, Global};
 
@@ -50,14 +50,13 @@ fn search(alloc: Global, product: &Product, k: u32) -> Result<Option<Diff>, Allo
     requires few { k ≤ 64 }
     ensures { IfOk result (IsLeastOf product.now k (outputs_of product.now)) }
 {
-    let frames = Prepared::reset_frames(alloc, product, k)?;
+    let mut frames = Search::new(alloc, product, k)?;
     let _cells = product.cells();
-    let mut work = Workspace::new();
     let mut bound = k;
     let mut best: Option<Diff> = None;
     for j in 0..product.outputs() {
         let (left, right) = product.output(j);
-        if let Some(seen) = earliest(alloc, &mut work, &frames, left, right, bound)? {
+        if let Some(seen) = frames.earliest(alloc, left, right, bound)? {
             bound = seen.frame;
             best = Some(Diff {
                 frame: seen.frame,

@@ -7,7 +7,7 @@ pub overflow_mul-count : goal.overflow_mul-count
 overflow_mul-count c =
     let few = few_inputs c.args.product.now c.cells-cells.ensures.pair in
     let narrow : c.inputs.result ≤ 2000001 = omega (arith, c.inputs.ensures) in
-    let all : c.args.frames * c.inputs.result ≤ 17 * 2000001 = mul-le-mul c.requires.few narrow in
+    let all : c.args.frames * c.inputs.result ≤ 64 * 2000001 = mul-le-mul c.requires.few narrow in
     omega arith
 
 pub overflow_add-count : goal.overflow_add-count
@@ -15,5 +15,5 @@ overflow_add-count c =
     let few = few_inputs c.args.product.now c.cells-cells.ensures.pair in
     let states = few_latches c.args.product.now c.cells-cells.ensures.pair in
     let narrow : c.inputs.result ≤ 2000001 = omega (arith, c.inputs.ensures) in
-    let all : c.args.frames * c.inputs.result ≤ 17 * 2000001 = mul-le-mul c.requires.few narrow in
+    let all : c.args.frames * c.inputs.result ≤ 64 * 2000001 = mul-le-mul c.requires.few narrow in
     omega (arith, c.latches.ensures)
