@@ -48,11 +48,18 @@ def run(net, start, rows):
     return cycles
 
 
+def name_of(net, kind, place, shown):
+    """Of several names in one symbol line, as yosys writes them, the first that isn't shown elsewhere."""
+    names = net.names.get((kind, place), f"{kind}{place}").split(" ")
+    return next((name for name in names if name not in shown), names[0])
+
+
 def vectors(net, kind, count):
     """Name to the positions of its bits, the highest first, with the range to show, or none for a single bit."""
     found = {}
+    shown = {net.names.get(("o", place)) for place in range(len(net.outputs))} if kind == "l" else set()
     for place in range(count):
-        name = net.names.get((kind, place), f"{kind}{place}").split(" ")[0]
+        name = name_of(net, kind, place, shown)
         match = re.fullmatch(r"(.*\S)\[(\d+)\]", name)
         stem, index = (match[1], int(match[2])) if match else (name, None)
         if index in found.get(stem, {}):
