@@ -9,6 +9,7 @@ known after it, in three values, begins at any value. Names are those of the sym
 """
 import sys
 
+sys.dont_write_bytecode = True
 import aiger
 
 UNKNOWN = aiger.ANY

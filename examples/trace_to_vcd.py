@@ -10,6 +10,7 @@ position, as i0, l0, o0. The signal `differs` is 1 in the cycles in which some o
 import re
 import sys
 
+sys.dont_write_bytecode = True
 import aiger
 
 
