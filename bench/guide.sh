@@ -1,11 +1,11 @@
 #!/bin/sh
-# Runs every command of docs/GUIDE.md and compares what it prints with what the page shows; and checks the pairs of examples/README.md,
-# from the files that stand there and from files made anew, against the lines of its table.
+# Runs every command of docs/GUIDE.md and compares what it prints with what the page shows; and checks the pairs of
+# examples/README.md, from the files that stand there and from files made anew, against the lines of its table.
 #
 #   bench/guide.sh PROGRAM
 #
-# PROGRAM is the built program, crates/sec/out/sec. Needs yosys, ABC as `berkeley-abc`, and GNU parallel. It works in a folder of its own,
-# and ends with 1 where some output isn't as shown. It isn't proved.
+# PROGRAM is the built program, crates/sec/out/sec. Needs yosys, ABC as `berkeley-abc`, and GNU parallel. It works in a folder
+# of its own, and ends with 1 where some output isn't as shown. It isn't proved.
 [ $# -eq 1 ] || { sed -n '2,8p' "$0" >&2; exit 2; }
 top=$(cd "$(dirname "$0")/.." && pwd)
 program=$(cd "$(dirname "$1")" && pwd)/$(basename "$1")

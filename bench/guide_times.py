@@ -1,10 +1,11 @@
 #!/usr/bin/env python3
-"""Times `check --cert` and `verify` on pairs, for the table of docs/GUIDE.md.
+"""Times `check`, `check --cert` and `verify` on pairs, for the table of docs/GUIDE.md.
 
     bench/guide_times.py PROGRAM SECONDS LEFT RIGHT [LEFT RIGHT..]
 
-prints a row for each pair: what `check` says, the gates of both sides, seconds of processor (the least of three runs, or of one where
-it takes more than five; stopped after SECONDS), the certificate's bytes. It isn't proved.
+prints a row for each pair: the gates of both sides, what `check` says, seconds of processor of `check`, `check --cert` and
+`verify` (the least of three runs, or of one where it takes more than five; stopped after SECONDS of waiting), the
+certificate's bytes. It isn't proved.
 """
 import os
 import resource
@@ -51,4 +52,5 @@ for left, right in zip(files[::2], files[1::2]):
             size = f"{os.path.getsize(cert):,}"
             verify, _ = least([program, "verify", left, right, cert], float(seconds))
         name = os.path.basename(right).rsplit(".", 1)[0]
-        print(f"| {name} | {gates(left):,} + {gates(right):,} | `{said}` | {shown(plain)} | {shown(whole)} | {shown(verify)} | {size} |", flush=True)
+        times = " | ".join(map(shown, (plain, whole, verify)))
+        print(f"| {name} | {gates(left):,} + {gates(right):,} | `{said}` | {times} | {size} |", flush=True)

@@ -3,8 +3,9 @@
 
     bench/page.py PAGE.md
 
-A command is a line `    $ WORDS`; the indented lines below it, up to the next command or the end of the block, are what it prints on
-both streams. A line `..` among them stands for any lines. Commands of one block run in one shell. Ends with 1 where some differ.
+A command is a line `    $ WORDS`; the indented lines below it, up to the next command or the end of the block, are what it
+prints on both streams. A line `..` among them stands for any lines. Commands of one block run in one shell. Ends with 1 where
+some differ.
 """
 import subprocess
 import sys
@@ -39,7 +40,8 @@ def alike(shown, printed):
 def run(block):
     """What each command of a block prints."""
     script = "".join(f"{command}\nstatus=$?; echo; echo '{MARK}'; (exit $status)\n" for _, command, _ in block)
-    done = subprocess.run(["bash", "-c", "exec 2>&1\n" + script], stdin=subprocess.DEVNULL, capture_output=True, text=True, errors="replace")
+    words = ["bash", "-c", "exec 2>&1\n" + script]
+    done = subprocess.run(words, stdin=subprocess.DEVNULL, capture_output=True, text=True, errors="replace")
     parts = done.stdout.split(f"\n{MARK}\n")
     return [part.rstrip("\n").split("\n") if part.strip("\n") else [] for part in parts]
 

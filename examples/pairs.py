@@ -5,11 +5,11 @@
     examples/pairs.py check SLICE FOLDER [WORDS..]   checks each pair of a slice, with WORDS handed to `sec check`
     examples/pairs.py join LIST FOLDER               verifies the certificates, says how each pair of LIST ended, and sums up
 
-A line of LIST is NAME LEFT RIGHT, with no spaces inside a word. `check` writes FOLDER/NAME.cert or FOLDER/NAME.trace, and last
-FOLDER/NAME.result: the exit status and the first line that `sec` printed. A pair that has its result is not checked again, so a job
-that was cut short can be run again. `join` believes no `equivalent`: it runs `sec verify`. It ends with 0 where all pairs are verified,
-1 where some pair differs, else 3 where some pair has no answer, else 2 where some pair is undecided. `sec` is the word of the
-environment variable SEC, or `sec` on the path.
+A line of LIST is NAME LEFT RIGHT, with no spaces inside a word. `check` writes FOLDER/NAME.cert or FOLDER/NAME.trace, and
+last FOLDER/NAME.result: the exit status and the first line that `sec` printed. A pair that has its result is not checked
+again, so a job that was cut short can be run again. `join` believes no `equivalent`: it runs `sec verify`. It ends with 0
+where all pairs are verified, 1 where some pair differs, else 3 where some pair has no answer, else 2 where some pair is
+undecided. `sec` is the word of the environment variable SEC, or `sec` on the path.
 """
 import os
 import subprocess
@@ -37,8 +37,8 @@ def check(path, folder, *words):
         result = f"{folder}/{name}.result"
         if os.path.exists(result):
             continue
-        done = subprocess.run([SEC, "check", left, right, "--cert", f"{folder}/{name}.cert", "--trace", f"{folder}/{name}.trace", *words],
-                              capture_output=True, text=True)
+        stored = ["--cert", f"{folder}/{name}.cert", "--trace", f"{folder}/{name}.trace"]
+        done = subprocess.run([SEC, "check", left, right, *stored, *words], capture_output=True, text=True)
         said = (done.stdout or done.stderr or "no text").splitlines()[0]
         with open(result + ".new", "w", encoding="utf-8") as file:
             file.write(f"{done.returncode} {said}\n")

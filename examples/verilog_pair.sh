@@ -3,12 +3,13 @@
 #
 #   examples/verilog_pair.sh TOP LEFT.v RIGHT.v FOLDER
 #
-# writes FOLDER/left.aig and FOLDER/right.aig. Several files of one side are one word: "a.v b.v". One run of yosys reads both sides: it
-# numbers the ports in the order in which it first meets their names, so two runs may number them differently. Needs `yosys`.
+# writes FOLDER/left.aig and FOLDER/right.aig. Several files of one side are one word: "a.v b.v". One run of yosys reads both
+# sides: it numbers the ports in the order in which it first meets their names, so two runs may number them differently. Needs
+# `yosys`.
 #
 #   STARTS=-init         registers with no initial value begin at 0; else at any value
 #   CLOCKS=clk2fflogic   for several clocks, each an input; else all registers step together
-[ $# -eq 4 ] || { sed -n '2,10p' "$0" >&2; exit 2; }
+[ $# -eq 4 ] || { sed -n '2,11p' "$0" >&2; exit 2; }
 top=$1 left=$2 right=$3 folder=$4
 mkdir -p "$folder" || exit 2
 
