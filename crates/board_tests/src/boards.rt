@@ -57,7 +57,7 @@ fn answer<'v, 'p, L: Run>(
     let Work {
         offer,
         stamp,
-        prover,
+        mut prover,
     } = work;
     match prover.prove(alloc, offer.pair())? {
         Proof::Holds(verdict) => {

@@ -109,6 +109,27 @@ fn visit<L: Run>(
     decide(board, alloc, prover, party, member)
 }
 
+// Visits all places. Answers whether the classes were split.
+fn visit_all<L: Run>(
+    board: &mut Board<'_, '_, L>,
+    alloc: Global,
+    prover: &mut Prover<'_, '_>,
+    party: u32,
+) -> Result<bool, AllocError>
+    requires party { party < L.workers + 1 }
+    requires current { IsUnder L.pair L.k board.old.state.classes prover.old }
+    ensures closes { Closes (places_of L.pair) party board.old board.new }
+    ensures split { IfOk result (λ s. s ≡ true → class_count (places_of L.pair) board.old.state.classes < class_count (places_of L.pair) board.new.state.classes) }
+    ensures counted { IfOk result (λ s. s ≡ false → AllCounted (places_of L.pair) board.new.state) }
+{
+    for p in 0..board.places() {
+        if visit(board, alloc, prover, party, p)? {
+            return Ok(true);
+        }
+    }
+    Ok(false)
+}
+
 // One pass over the places. Answers whether the classes were split.
 fn pass<L: Run>(board: &mut Board<'_, '_, L>, alloc: Global, party: u32) -> Result<bool, AllocError>
     requires party { party < L.workers + 1 }
@@ -118,12 +139,9 @@ fn pass<L: Run>(board: &mut Board<'_, '_, L>, alloc: Global, party: u32) -> Resu
 {
     let version = board.version().copy(alloc)?;
     let mut prover = Prover::new(alloc, &version)?;
-    for p in 0..board.places() {
-        if visit(board, alloc, &mut prover, party, p)? {
-            return Ok(true);
-        }
-    }
-    Ok(false)
+    let split = visit_all(board, alloc, &mut prover, party);
+    drop(prover);
+    split
 }
 
 /// Works until each needed pair is counted, as one party. What is open it takes and answers at once; a pair that is out it proves

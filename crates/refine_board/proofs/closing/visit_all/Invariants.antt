@@ -2,7 +2,7 @@ use Rattle.std.proofs.Common.{◌≡◌}
 use Rattle.circ_model.specs.Meaning.{places_of}
 use Rattle.refine_board.specs.Running.{AreCountedBelow}
 use Rattle.refine_board.specs.Closings.{Closes}
-use Rattle.refine_board.proofs.closing.pass.Given as goal
+use Rattle.refine_board.proofs.closing.visit_all.Given as goal
 
 abbrev pub invariant-loop-p : goal.invariant-loop-p
 invariant-loop-p g l = record {

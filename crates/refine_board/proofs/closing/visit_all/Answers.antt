@@ -1,7 +1,7 @@
 use Rattle.std.proofs.Common.{◌≡◌, ◌∙◌, false, arith}
 use Rattle.circ_model.specs.Meaning.{places_of}
 use Rattle.refine_board.proofs.Alone.{closes_more}
-use Rattle.refine_board.proofs.closing.pass.Goals as goal
+use Rattle.refine_board.proofs.closing.visit_all.Goals as goal
 
 pub returns-in_err-visit-clause-closes : goal.returns-in_err-visit-clause-closes
 returns-in_err-visit-clause-closes g c = closes_more (places_of g.L.Run.pair) c.args.party c.args.board.now c.loop-p.board c.visit.new.board c.loop-p.invariant.closes c.visit.ensures.closes
