@@ -88,7 +88,11 @@ impl<'v, 'p> Bench<'v, 'p> {
     }
 
     /// Settles a pair of its version.
-    pub(crate) fn settle(&mut self, alloc: Global, pair: Needed) -> Result<Proof<'v, 'p>, AllocError>
+    pub(crate) fn settle(
+        &mut self,
+        alloc: Global,
+        pair: Needed,
+    ) -> Result<Proof<'v, 'p>, AllocError>
         requires needed { IsNeeded (places_of self.old.value.pair) self.old.value.classes pair.member }
         requires rep { pair.rep ≡ least_of self.old.value.classes pair.member }
         ensures kept { self.new ≡ self.old }
