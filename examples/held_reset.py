@@ -27,6 +27,9 @@ def wrapper(top, clock, reset, ports):
     for name in (clock, reset):
         if name not in names:
             sys.exit(f"{top} has no port {name}: its ports are {', '.join(names)}")
+    for name, direction, _ in ports:
+        if direction not in ("input", "output") or name in ("started", "inside"):
+            sys.exit(f"port {name}, {direction}: only input and output ports not called started or inside can be wrapped")
     heads, wires, links, masks = [], [], [], []
     for name, direction, width in ports:
         bits = f"[{width - 1}:0] " if width > 1 else ""
@@ -38,8 +41,6 @@ def wrapper(top, clock, reset, ports):
             link = f"inside_{name}"
             wires.append(f"  wire {bits}{link};")
             masks.append(f"  assign {name} = {link} & {{{width}{{started}}}};")
-        elif direction != "input":
-            sys.exit(f"port {name} is {direction}: only input and output ports can be wrapped")
         links.append(f".{name}({link})")
     lines = [f"module {top}_held({', '.join(heads)});", "  reg started = 0;",
              f"  always @(posedge {clock}) started <= 1;", *wires, f"  {top} inside({', '.join(links)});", *masks, "endmodule"]
