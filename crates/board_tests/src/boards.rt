@@ -5,6 +5,7 @@ ghost use Rattle.refine_board.specs.Running.{IsAsked};
 ghost use Rattle.verdict_stamp.specs.Published.{IsStampOf};
 
 use crate::circuits::{DELAY, LATE_DELAY, NOTHING, TOGGLE, pair_of};
+use crate::proving::proof_of;
 use class_partition::Classes;
 use product_machine::Product;
 use refine_board::{Board, Journal, Offer, Run, Step, Take, finish, replay};
@@ -13,16 +14,16 @@ use std::marker::Brand;
 use std::sync::Wait;
 use std::sync::ledger::Blank;
 use std::test::Fail;
-use verdict_stamp::{Proof, Prover, Stamp, Version, Versions, greatest_classes};
+use verdict_stamp::{Proof, Stamp, Version, Versions, greatest_classes};
 
-// An offer, and the prover of its version.
+// An offer, and its version.
 #[derive(Drop)]
 struct Work<'v, 'p, L: Run> {
     offer: Offer<'p, L>,
     stamp: Stamp<'p>,
-    prover: Prover<'v, 'p>,
-    ghost asked: { IsAsked prover offer.pair },
-    ghost stamped: { IsStampOf L.list stamp prover },
+    version: &'v Version<'p>,
+    ghost asked: { IsAsked version.now offer.pair },
+    ghost stamped: { IsStampOf L.list stamp version.now },
 }
 
 // Asks for a pair.
@@ -37,11 +38,11 @@ fn ask<'v, 'p, L: Run>(
     match board.take(rt, party)? {
         Take::Offer(offer) => {
             let stamp = offer.stamp().copy();
-            let prover = Prover::new(alloc, board.versions().at(&stamp))?;
+            let version = board.versions().at(&stamp);
             Ok(Some(Work {
                 offer,
                 stamp,
-                prover,
+                version,
             }))
         }
         _ => Ok(None),
@@ -57,9 +58,9 @@ fn answer<'v, 'p, L: Run>(
     let Work {
         offer,
         stamp,
-        mut prover,
+        version,
     } = work;
-    match prover.prove(alloc, offer.pair())? {
+    match proof_of(alloc, version, offer.pair())? {
         Proof::Holds(verdict) => {
             board.keep(offer, &verdict, &stamp);
         }

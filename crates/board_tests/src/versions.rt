@@ -5,6 +5,7 @@ use crate::circuits::{
     DELAY, LATCH_OF_PRODUCT, LATE_DELAY, LOW, PRODUCT_OF_LATCHES, RING, TOGGLE, TOGGLE_FROM_ONE,
     pair_of,
 };
+use crate::proving::proof_of;
 use bit_rows::BitRow;
 use class_partition::Classes;
 use product_machine::Product;
@@ -13,7 +14,7 @@ use std::sync::Wait;
 use std::test::Fail;
 use std::thread;
 use std::thread::Threads;
-use verdict_stamp::{Proof, Prover, Version, Versions, greatest_classes};
+use verdict_stamp::{Proof, Version, Versions, greatest_classes};
 
 // The least place of each place's class; 9 for none.
 fn table_of(classes: &Classes) -> [u32; 8] {
@@ -111,10 +112,9 @@ fn prove_from(
     ensures product { next.new.pair ≡ next.old.pair }
     ensures k { next.new.k ≡ next.old.k }
 {
-    let mut prover = Prover::new(alloc, version)?;
-    match prover.version().classes().next_pair(place) {
+    match version.classes().next_pair(place) {
         None => Ok([9, 0]),
-        Some(pair) => match prover.prove(alloc, pair)? {
+        Some(pair) => match proof_of(alloc, version, pair)? {
             Proof::Holds(verdict) => Ok([verdict.member(), 0]),
             Proof::Splits(vector) => {
                 next.split_by(&vector);
