@@ -7,3 +7,4 @@ pub mod Going
 pub mod Mapped
 pub mod Merges
 pub mod InFrame
+pub mod Assuming

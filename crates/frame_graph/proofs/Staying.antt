@@ -5,16 +5,10 @@ use Rattle.and_graph.specs.declared.node.Node.{Node}
 use Rattle.and_graph.specs.Graphs.{GrowsTo, Obeys, node_at}
 use Rattle.and_graph.proofs.Nodes.{obeys_before}
 use Rattle.frame_graph.specs.Inductions.{BasePasses, Induction, StepPasses}
-use Rattle.frame_graph.specs.Laws.{IsMerged}
+use Rattle.frame_graph.specs.Laws.{IsLater, IsMerged}
 use Rattle.frame_graph.specs.Leaves.{AreLeaves, Leaves}
 use Rattle.frame_graph.specs.Maps.{AreWithin, IsResetMap, IsStepMap, Mapping}
 use Rattle.frame_graph.specs.Owed.{IsOwed}
-
--- a later graph: what the leaves, the literals and the valuations of a map need of it
-pub record IsLater (nodes after : List Node) : Type 0 where
-  pub size : length nodes ≤ length after
-  pub operands : (n : ℕ) → n < length nodes → ((node_at after n).left ≡ (node_at nodes n).left) × ((node_at after n).right ≡ (node_at nodes n).right)
-  pub valuations : (v : ℕ → Bool) → Obeys after v → Obeys nodes v
 
 pub grown_is_later : (nodes after : List Node) → GrowsTo nodes after → IsLater nodes after
 grown_is_later nodes after on = record {
@@ -28,6 +22,13 @@ merged_is_later nodes after is = record {
   size = let s = is.size in omega arith;
   operands = λ n lt. is.operands n;
   valuations = is.valuations;
+}
+
+pub later_twice : (nodes middle after : List Node) → IsLater nodes middle → IsLater middle after → IsLater nodes after
+later_twice nodes middle after first second = record {
+  size = let s = first.size in let t = second.size in omega arith;
+  operands = λ n lt. let s = first.size in let was = first.operands n lt in let is = second.operands n (omega arith) in (is.0 ∙ was.0, is.1 ∙ was.1);
+  valuations = λ v obeys. first.valuations v (second.valuations v obeys);
 }
 
 pub later_leaves : (nodes after : List Node) (l : Leaves) → IsLater nodes after → AreLeaves nodes l → AreLeaves after l

@@ -1,5 +1,5 @@
 -- The laws of maps, as statements.
-use Rattle.std.specs.Prelude.{◌≡◌, ℕ, List, length, Bool}
+use Rattle.std.specs.Prelude.{◌≡◌, ◌<◌, ◌≤◌, ℕ, List, length, Bool}
 use Rattle.circ_model.specs.Meaning.{Path}
 use Rattle.class_partition.specs.Classes.{Classes, Passes}
 use Rattle.and_graph.specs.declared.node.Node.{Node}
@@ -21,6 +21,12 @@ BothHalves = (i : Induction) (p : ℕ) → BasePasses i p → StepPasses i p →
 pub record IsMerged (nodes after : List Node) : Type 0 where
   pub size : length after ≡ length nodes
   pub operands : (n : ℕ) → ((node_at after n).left ≡ (node_at nodes n).left) × ((node_at after n).right ≡ (node_at nodes n).right)
+  pub valuations : (v : ℕ → Bool) → Obeys after v → Obeys nodes v
+
+-- a later graph, grown or merged: what the leaves, the literals and the valuations of a map need of it
+pub record IsLater (nodes after : List Node) : Type 0 where
+  pub size : length nodes ≤ length after
+  pub operands : (n : ℕ) → n < length nodes → ((node_at after n).left ≡ (node_at nodes n).left) × ((node_at after n).right ≡ (node_at nodes n).right)
   pub valuations : (v : ℕ → Bool) → Obeys after v → Obeys nodes v
 
 -- a map stands for ever: while the graph grows, and through merges

@@ -1,7 +1,7 @@
 -- What a place of a frame in which the classes hold owes: its literal is what stands there. A question about the last frame may assume
 -- it, and is then exact.
-use Rattle.std.specs.Prelude.{◌≡◌, ℕ, List, All, Bool}
-use Rattle.circ_model.specs.Meaning.{Path, literal_value}
+use Rattle.std.specs.Prelude.{◌≡◌, ◌<◌, ℕ, List, All, Bool}
+use Rattle.circ_model.specs.Meaning.{Path, literal_value, places_of}
 use Rattle.class_partition.specs.Classes.{Classes}
 use Rattle.and_graph.specs.declared.node.Node.{Node}
 use Rattle.and_graph.specs.Graphs.{Obeys}
@@ -16,3 +16,7 @@ pub record IsOwed (nodes : List Node) (m : Mapping) (classes : Classes) (p : ℕ
 -- two literals are equal under each valuation under which those of each of these pairs are
 abbrev pub AreEqualWhere : List Node → List (ℕ × ℕ) → ℕ → ℕ → Type 0
 AreEqualWhere nodes owed a b = (v : ℕ → Bool) → Obeys nodes v → All (λ (p : ℕ × ℕ). literal_value v p.0 ≡ literal_value v p.1) owed → literal_value v a ≡ literal_value v b
+
+-- so many places, each of one of the frames in which the classes are assumed
+abbrev pub AllOwed : Mapping → List (ℕ × ℕ) → Type 0
+AllOwed m owed = All (λ (p : ℕ × ℕ). (p.0 < m.depth) × (p.1 < places_of m.leaves.pair)) owed

@@ -5,6 +5,7 @@
 #![tactic(auto)]
 
 mod cells;
+mod constraints;
 mod frame;
 mod frames;
 mod laws;

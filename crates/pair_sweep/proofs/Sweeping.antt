@@ -6,9 +6,9 @@ use Rattle.and_graph.specs.declared.node.Node.{Node}
 use Rattle.and_graph.specs.Graphs.{AreEqual, GrowsTo, Obeys, node_at}
 use Rattle.frame_graph.specs.Inductions.{Induction, BasePasses, StepPasses}
 use Rattle.frame_graph.specs.Leaves.{Leaves}
-use Rattle.frame_graph.specs.Laws.{IsMerged}
+use Rattle.frame_graph.specs.Laws.{IsLater, IsMerged}
 use Rattle.frame_graph.specs.Maps.{Mapping, IsStepMap, induction_of}
-use Rattle.frame_graph.proofs.Staying.{IsLater, grown_is_later, merged_is_later, later_maps}
+use Rattle.frame_graph.proofs.Staying.{grown_is_later, merged_is_later, later_maps}
 use Rattle.pair_sweep.specs.Sweeps.{IsMemory, IsSweep}
 
 -- the frames from reset, and those of the step, stand on the graph as it is later
@@ -61,3 +61,6 @@ sweep_passed nodes resets steps after k classes is leaves depth map = record {
   depth = depth ∙ is.depth;
   places = is.places;
 }
+
+pub sweep_is_later : (nodes after : List Node) (resets steps : Mapping) (k : ℕ) (classes : Classes) → IsLater nodes after → IsSweep nodes resets steps k classes → IsSweep after resets steps k classes
+sweep_is_later = sweep_later

@@ -2,7 +2,7 @@
 ghost use Rattle.std.specs.Prelude.{◌≡◌, ◌<◌, ◌≤◌, ◌+◌, ◌*◌, ℕ, IfNone, IfOk, length};
 ghost use Rattle.circ_model.specs.Meaning.{places_of};
 ghost use Rattle.frame_graph.specs.Inductions.{BasePasses, StepPasses};
-ghost use Rattle.pair_sweep.specs.Sweeps.{IsSweep};
+ghost use Rattle.pair_sweep.specs.Sweeps.{AreOwedOf, IsSweep};
 
 use crate::free_bit::{FreeBit, decoded};
 use and_graph::{Asker, Graph};
@@ -163,6 +163,32 @@ impl<'v, 'p> Sweep<'v, 'p> {
             &mut self.asker,
             self.classes,
             member,
+        )?;
+        decoded(alloc, &self.steps, found)
+    }
+
+    /// The same, where so many places are asked to owe what they owe: each by its frame, below k, and itself. Where it is found
+    /// equal so, what rests on it is mapped over its class's least place.
+    pub fn step_difference_where(
+        &mut self,
+        alloc: Global,
+        member: u32,
+        owed: &[(u32, u32)],
+    ) -> Result<Option<Vec<FreeBit>>, AllocError>
+        requires place { member < places_of self.old.pair }
+        requires owed { AreOwedOf self.old owed.now }
+        ensures kept { self.new ≡ self.old }
+        ensures passes { IfOk result (λ found. IfNone found (StepPasses self.old member)) }
+    {
+        let _places = self.classes.len();
+        self.steps.reach(&mut self.graph, member + 1)?;
+        let found = self.steps.settle_step_where(
+            alloc,
+            &mut self.graph,
+            &mut self.asker,
+            self.classes,
+            member,
+            owed,
         )?;
         decoded(alloc, &self.steps, found)
     }

@@ -1,5 +1,5 @@
 -- Rows that may split, and those that separate a needed pair.
-use Rattle.std.specs.Prelude.{◌≡◌, ℕ, List, length, All, Bool}
+use Rattle.std.specs.Prelude.{◌≡◌, ◌<◌, ℕ, List, length, All, Bool}
 use Rattle.circ_model.specs.Meaning.{Pair, places_of}
 use Rattle.circ_model.specs.Correspondence.{MaySplit}
 use Rattle.class_partition.specs.Classes.{Classes, needed}
@@ -14,3 +14,7 @@ pub record IsRowApart (pair : Pair) (k : ℕ) (classes : Classes) (m : ℕ) (bit
   pub size : length bits ≡ places_of pair
   pub may : MaySplit pair k bits
   pub apart : Separates bits (needed classes m)
+
+-- frames below a bound, each with a place
+abbrev pub AllBroken : ℕ → ℕ → List (ℕ × ℕ) → Type 0
+AllBroken frames places broken = All (λ (p : ℕ × ℕ). (p.0 < frames) × (p.1 < places)) broken

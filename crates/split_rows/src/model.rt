@@ -1,10 +1,11 @@
 //! What a model of the solver leads to: 64 paths with its bits, run on.
-ghost use Rattle.std.specs.Prelude.{◌≡◌, ◌<◌, ◌≤◌, ◌+◌, ◌*◌, OnOk, length};
+ghost use Rattle.std.specs.Prelude.{◌≡◌, ◌<◌, ◌≤◌, ◌+◌, ◌*◌, IfOk, length};
 ghost use Rattle.circ_model.specs.Meaning.{latches_of, places_of};
 ghost use Rattle.class_partition.specs.Classes.{KeepsGreatest};
+ghost use Rattle.split_rows.specs.Rows.{AllBroken};
 
 use crate::rows::SplitRows;
-use crate::words::{agree, drawn_among, lay};
+use crate::words::{add_broken, agree, drawn_among, lay};
 use class_partition::Classes;
 use pair_sweep::FreeBit;
 use std::alloc::{AllocError, Global};
@@ -12,6 +13,29 @@ use step_lanes::{LaneRows, StepLanes};
 
 // So many frames are simulated after that of a model.
 const MORE: u32 = 8;
+
+// The places that break the classes in the first k frames of the first path, a few of them.
+fn broken_places(
+    alloc: Global,
+    lanes: &mut StepLanes<'_, '_>,
+    classes: &Classes,
+    inputs: &[u64],
+    frames: u32,
+) -> Result<Vec<(u32, u32)>, AllocError>
+    requires inputs { length inputs.now ≡ frames * length lanes.old.pair.left.inputs }
+    requires few { frames ≤ 17 }
+    requires begin { lanes.old.frames ≡ 0 }
+    ensures { IfOk result (λ b. AllBroken frames (length classes.now.least) b.items) }
+{
+    let each = lanes.product().inputs() as usize;
+    let mut broken = Vec::new(alloc);
+    for t in 0..frames {
+        let begin = t as usize * each;
+        lanes.step(&inputs[begin..begin + each]);
+        add_broken(classes, lanes.words(), t, &mut broken)?;
+    }
+    Ok(broken)
+}
 
 // Goes through so many frames.
 fn step_frames(lanes: &mut StepLanes<'_, '_>, inputs: &[u64], frames: u32)
@@ -63,17 +87,18 @@ impl<'p> SplitRows<'p> {
 
     /// Simulates 64 paths with these free bits, which a model of the solver has for the step of classes that separate no pair of
     /// the greatest correspondence, and takes in the rows of those on which the classes hold in the first k frames: of frame k, and
-    /// of some later ones.
+    /// of some later ones. Where there are none it answers some of the places that break the classes, each with its frame.
     pub fn run_on(
         &mut self,
         alloc: Global,
         classes: &Classes,
         bits: &[FreeBit],
-    ) -> Result<(), AllocError>
+    ) -> Result<Vec<(u32, u32)>, AllocError>
         requires places { length classes.now.least ≡ places_of self.old.pair }
         requires few { self.old.k ≤ 16 }
         requires keeps { KeepsGreatest self.old.pair self.old.k classes.now }
-        ensures { self.new ≡ self.old }
+        ensures kept { self.new ≡ self.old }
+        ensures broken { IfOk result (λ b. AllBroken self.old.k (places_of self.old.pair) b.items) }
     {
         let product = self.product;
         let each = product.inputs() as usize;
@@ -90,8 +115,15 @@ impl<'p> SplitRows<'p> {
         )?;
         let mut lanes = StepLanes::new(alloc, product, self.k, classes, start.as_slice())?;
         step_frames(&mut lanes, inputs.as_slice(), self.k + 1);
+        if lanes.lanes() == 0 {
+            drop(lanes);
+            let mut again = StepLanes::new(alloc, product, self.k, classes, start.as_slice())?;
+            let before = self.k as usize * each;
+            return broken_places(alloc, &mut again, classes, &inputs[..before], self.k);
+        }
         self.take_step(alloc, &lanes)?;
-        self.go_on(alloc, &mut lanes, &mut inputs[..each])
+        self.go_on(alloc, &mut lanes, &mut inputs[..each])?;
+        Ok(Vec::new(alloc))
     }
 
     // Simulates some frames more, with inputs that are drawn.
@@ -108,9 +140,6 @@ impl<'p> SplitRows<'p> {
         requires inputs { length inputs.old ≡ length self.old.pair.left.inputs }
         ensures { self.new ≡ self.old }
     {
-        if lanes.lanes() == 0 {
-            return Ok(());
-        }
         for _ in 0..MORE {
             self.stimulus.fill(inputs);
             lanes.step(inputs);

@@ -1,5 +1,6 @@
 //! Words of blocks and of paths. No fact rests on which bits are drawn.
-ghost use Rattle.std.specs.Prelude.{◌≡◌, ◌<◌, length};
+ghost use Rattle.std.specs.Prelude.{◌≡◌, ◌<◌, ◌+◌, length};
+ghost use Rattle.split_rows.specs.Rows.{AllBroken};
 
 use circ_model::Lit;
 use class_partition::Classes;
@@ -8,6 +9,9 @@ use pair_sweep::FreeBit;
 use product_machine::{Cell, Product};
 use std::alloc::{AllocError, Global};
 use step_lanes::LaneRows;
+
+// So many places that break the classes are told of a model at most.
+const MOST: usize = 16;
 
 // Half of the lanes.
 const LOW: u64 = 0xffff_ffff;
@@ -153,6 +157,36 @@ pub(crate) fn agree(
             }
         };
         words.push(word)?;
+    }
+    Ok(())
+}
+
+// Whether a place and its class's least place differ in the first lane, each with its phase.
+fn is_broken(classes: &Classes, words: &[u64], p: u32) -> bool
+    requires { p < length classes.now.least }
+{
+    let _places = classes.len();
+    let rep = classes.rep(p);
+    let apart = word_at(words, rep as usize) ^ word_at(words, p as usize);
+    let turned = classes.phase(rep) != classes.phase(p);
+    (apart & 1 == 1) != turned
+}
+
+// Adds the places that break the classes in the first lane of a frame, as long as there are few.
+pub(crate) fn add_broken(
+    classes: &Classes,
+    words: &[u64],
+    frame: u32,
+    broken: &mut Vec<(u32, u32)>,
+) -> Result<(), AllocError>
+    requires { AllBroken (frame + 1) (length classes.now.least) broken.old.items }
+    ensures { AllBroken (frame + 1) (length classes.now.least) broken.new.items }
+{
+    let _places = classes.len();
+    for p in 0..classes.len() {
+        if broken.len() < MOST && is_broken(classes, words, p) {
+            broken.push((frame, p))?;
+        }
     }
     Ok(())
 }

@@ -6,6 +6,7 @@ ghost use Rattle.class_partition.specs.Classes.{IsNeeded, least_of, needed};
 ghost use Rattle.frame_graph.specs.Inductions.{BasePasses, StepPasses};
 ghost use Rattle.frame_unroll.specs.Found.{IsFound};
 ghost use Rattle.verdict_stamp.specs.Versions.{IsOf, IsVersion, base_of, step_of, base_question, step_question, induction_of};
+ghost use Rattle.split_rows.specs.Rows.{AllBroken};
 ghost use Rattle.verdict_stamp.specs.Proofs.{IsApart, IsProof, IsSettled, IsSplitOf};
 
 use crate::vector::Vector;
@@ -15,11 +16,14 @@ use bit_rows::BitRow;
 use circ_model::Lit;
 use class_partition::{Classes, Needed};
 use frame_unroll::{Found, Prepared, Workspace};
-use pair_sweep::{Sweep, SweepMemory};
+use pair_sweep::{FreeBit, Sweep, SweepMemory};
 use product_machine::Product;
 use split_rows::SplitRows;
 use std::alloc::{AllocError, Global};
 use std::marker::Model;
+
+// So many models of a pair are run on at most.
+const MODELS: u32 = 16;
 
 /// What a proof of a needed pair comes to.
 #[derive(Drop)]
@@ -317,16 +321,71 @@ impl<'v, 'p> Prover<'v, 'p> {
         ensures base { IfOk result (λ passes. IsTrue passes → BasePasses (induction_of self.old) pair.member) }
         ensures step { IfOk result (λ passes. IsTrue passes → StepPasses (induction_of self.old) pair.member) }
     {
-        if let Some(_) = self.sweep.base_difference(alloc, pair.member)? {
-            return Ok(false);
+        match self.sweep.base_difference(alloc, pair.member)? {
+            Some(_) => return Ok(false),
+            None => {}
         }
         match self.sweep.step_difference(alloc, pair.member)? {
-            Some(bits) => {
-                let classes = self.current.classes();
-                self.rows.run_on(alloc, classes, bits.as_slice())?;
-                Ok(false)
-            }
+            Some(bits) => self.passes_where(alloc, pair, bits),
             None => Ok(true),
+        }
+    }
+
+    // Whether it passes in the last frame, where places that a model breaks are asked to owe what they owe, a few at a time. Each
+    // model is run on; where its paths keep the classes, its rows are held, and nothing more is asked.
+    fn passes_where(
+        &mut self,
+        alloc: Global,
+        pair: Needed,
+        model: Vec<FreeBit>,
+    ) -> Result<bool, AllocError>
+        requires place { pair.member < places_of self.old.pair }
+        ensures kept { self.new ≡ self.old }
+        ensures step { IfOk result (λ passes. IsTrue passes → StepPasses (induction_of self.old) pair.member) }
+    {
+        let mut bits = model;
+        let mut owed = Vec::new(alloc);
+        for _ in 0..MODELS {
+            let broken = self.run_on(alloc, bits.as_slice())?;
+            if broken.len() == 0 {
+                return Ok(false);
+            }
+            owed.extend_from_slice(broken.as_slice())?;
+            match self.ask_where(alloc, pair.member, owed.as_slice())? {
+                Some(more) => bits = more,
+                None => return Ok(true),
+            }
+        }
+        Ok(false)
+    }
+
+    // Runs a model on. Answers some of the places that break the classes, where its paths don't keep them.
+    fn run_on(&mut self, alloc: Global, bits: &[FreeBit]) -> Result<Vec<(u32, u32)>, AllocError>
+        ensures kept { self.new ≡ self.old }
+        ensures broken { IfOk result (λ b. AllBroken self.old.k (places_of self.old.pair) b.items) }
+    {
+        let classes = self.current.classes();
+        self.rows.run_on(alloc, classes, bits)
+    }
+
+    // Asks where so many places owe what they owe. A pair that passes so is taken in.
+    fn ask_where(
+        &mut self,
+        alloc: Global,
+        member: u32,
+        owed: &[(u32, u32)],
+    ) -> Result<Option<Vec<FreeBit>>, AllocError>
+        requires place { member < places_of self.old.pair }
+        requires owed { AllBroken self.old.k (places_of self.old.pair) owed.now }
+        ensures kept { self.new ≡ self.old }
+        ensures passes { IfOk result (λ found. IfNone found (StepPasses (induction_of self.old) member)) }
+    {
+        match self.sweep.step_difference_where(alloc, member, owed)? {
+            Some(bits) => Ok(Some(bits)),
+            None => {
+                self.sweep.take_passed(member)?;
+                Ok(None)
+            }
         }
     }
 
