@@ -1,8 +1,8 @@
 -- The free ones among resets: which is the j-th, and how many stand before one.
-use Rattle.std.proofs.Common.{◌≡◌, ◌∙◌, ◌<◌, ◌+◌, ℕ, zero, suc, List, [], ◌∷◌, length, take, get_or, refl, ap, sym, subst, arith, if◌then◌else◌}
+use Rattle.std.proofs.Common.{◌≡◌, ◌∙◌, ◌<◌, ◌+◌, ℕ, zero, suc, List, [], ◌∷◌, ◌++◌, length, take, get_or, refl, ap, sym, subst, arith, if◌then◌else◌}
 use Rattle.std.specs.Prelude.{count_by}
 use Rattle.std.proofs.lemmas.List.{length-map}
-use Rattle.std.proofs.lemmas.List.Sums.{sum_by-cons}
+use Rattle.std.proofs.lemmas.List.Sums.{sum_by-cons, sum_by_more, sum_by-take-le}
 use Rattle.circ_model.specs.declared.netlist.Latch.{Latch}
 use Rattle.circ_model.specs.declared.netlist.Reset.{Reset}
 use Rattle.circ_model.specs.declared.netlist.Reset.TheVariants.{Zero, One, Free}
@@ -76,3 +76,26 @@ free_latch net k lt e = of_latch net k (count_by is_free (take k (own_resets net
 
 pub listed_latch : (net : Netlist) (j : ℕ) → j < length (free_latches net) → (k : ℕ) × IsFreeLatch net k j
 listed_latch net j lt = let (k, h) = free_at 0 (own_resets net) j lt in (k, of_latch net k j h)
+
+reworded : (n k : ℕ) (r : Reset) (got before : List ℕ) → got ≡ before ++ (if is_free r then ((n + 1) + k) ∷ [] else []) → got ≡ before ++ (if is_free r then (n + suc k) ∷ [] else [])
+reworded n k r got before e = e ∙ ap (λ (m : ℕ). before ++ (if is_free r then m ∷ [] else [])) (omega arith)
+
+free_one_more : (n : ℕ) (rs : List Reset) (k : ℕ) → k < length rs → free_from n (take (suc k) rs) ≡ free_from n (take k rs) ++ (if is_free (get_or rs k Free) then (n + k) ∷ [] else [])
+free_one_more n [] k lt = absurd (omega arith)
+free_one_more n (Zero ∷ rs) zero lt = refl
+free_one_more n (One ∷ rs) zero lt = refl
+free_one_more n (Free ∷ rs) zero lt = ap (λ (m : ℕ). m ∷ []) (omega arith)
+free_one_more n (Zero ∷ rs) (suc k) lt = reworded n k (get_or rs k Free) (free_from (n + 1) (take (suc k) rs)) (free_from (n + 1) (take k rs)) (free_one_more (n + 1) rs k (omega arith))
+free_one_more n (One ∷ rs) (suc k) lt = reworded n k (get_or rs k Free) (free_from (n + 1) (take (suc k) rs)) (free_from (n + 1) (take k rs)) (free_one_more (n + 1) rs k (omega arith))
+free_one_more n (Free ∷ rs) (suc k) lt = ap (λ (ms : List ℕ). n ∷ ms) (reworded n k (get_or rs k Free) (free_from (n + 1) (take (suc k) rs)) (free_from (n + 1) (take k rs)) (free_one_more (n + 1) rs k (omega arith)))
+
+-- the free ones of one more reset
+pub free_more : (n : ℕ) (rs : List Reset) (k : ℕ) → k < length rs → free_from n (take (k + 1) rs) ≡ free_from n (take k rs) ++ (if is_free (get_or rs k Free) then (n + k) ∷ [] else [])
+free_more n rs k lt = ap (λ (m : ℕ). free_from n (take m rs)) (let e : k + 1 ≡ suc k = omega arith in e) ∙ free_one_more n rs k lt
+
+-- how many stand before the next
+pub count_more : (rs : List Reset) (i : ℕ) → i < length rs → count_by is_free (take (i + 1) rs) ≡ count_by is_free (take i rs) + (if is_free (get_or rs i Free) then 1 else 0)
+count_more rs i lt = sum_by_more (λ (r : Reset). if is_free r then 1 else 0) rs i Free lt
+
+pub count_within : (rs : List Reset) (i : ℕ) → i < length rs → get_or rs i Free ≡ Free → count_by is_free (take i rs) < count_by is_free rs
+count_within rs i lt e = omega (arith, count_more rs i lt ∙ ap (λ (r : Reset). count_by is_free (take i rs) + (if is_free r then 1 else 0)) e, sum_by-take-le (λ (r : Reset). if is_free r then 1 else 0) rs (i + 1))
