@@ -11,7 +11,7 @@ use Rattle.circ_model.proofs.WorkedVerdicts.{never_together, one_bit, no_bits, s
 
 -- the toggling latch beside the constant: its run
 run_is : IsRun toggle_and_zero (long (false ∷ []))
-run_is = record { is_path = record { start = refl; inputs = All-from_recursion (IsInputRow toggle_and_zero) ([] ∷ [] ∷ []) (refl, (refl, tt)) }; reset = reset }
+run_is = record { is_path = record { start = refl; inputs = All-from_recursion (IsInputRow toggle_and_zero) ([] ∷ [] ∷ []) (refl, (refl, tt)) }; reset = reset; ties = λ no. absurd (let f : ⊥ = cc in f) }
   where
     reset : (i : ℕ) → i < 1 → MayStartAt (slice_index_or (resets toggle_and_zero) i Free) (bit (false ∷ []) i)
     reset zero lt = refl
@@ -85,7 +85,7 @@ toggle_is_different = (
 
 -- latches that are free may start at 0 and 1
 kept_run : IsRun two_kept (short (false ∷ true ∷ []))
-kept_run = record { is_path = record { start = refl; inputs = All-from_recursion (IsInputRow two_kept) ([] ∷ []) (refl, tt) }; reset = reset }
+kept_run = record { is_path = record { start = refl; inputs = All-from_recursion (IsInputRow two_kept) ([] ∷ []) (refl, tt) }; reset = reset; ties = λ no. absurd (let f : ⊥ = cc in f) }
   where
     reset : (i : ℕ) → i < 2 → MayStartAt (slice_index_or (resets two_kept) i Free) (bit (false ∷ true ∷ []) i)
     reset zero lt = tt

@@ -11,17 +11,22 @@ use Rattle.circ_model.proofs.Greatest.{greatest_holds}
 use Rattle.circ_model.proofs.Outputs.{paired_agree}
 use Rattle.circ_model.proofs.Example.{toggle_sound}
 
--- two places that are equal in one frame of a run and differ in another are not together
-pub never_together : (pair : Pair) (k p q : ℕ) (run : Path) (t u : ℕ) → IsRun pair run → t < length run.inputs → u < length run.inputs
-    → bit (row_at pair run t) p ≡ bit (row_at pair run t) q → bit (row_at pair run u) p ≢ bit (row_at pair run u) q → Together pair k p q → ⊥
-never_together pair k p q run t u is lt lu same apart (false, h) =
-    apart (sym (value_of_literal (row_at pair run u) p false) ∙ greatest_holds pair k (literal p false) (literal q false) h run is u lu ∙ value_of_literal (row_at pair run u) q false)
-never_together pair k p q run t u is lt lu same apart (true, h) =
+-- two places that are equal in a frame of one run and differ in a frame of another are not together
+pub never_together_in : (pair : Pair) (k p q : ℕ) (run other : Path) (t u : ℕ) → IsRun pair run → t < length run.inputs → IsRun pair other → u < length other.inputs
+    → bit (row_at pair run t) p ≡ bit (row_at pair run t) q → bit (row_at pair other u) p ≢ bit (row_at pair other u) q → Together pair k p q → ⊥
+never_together_in pair k p q run other t u is lt on lu same apart (false, h) =
+    apart (sym (value_of_literal (row_at pair other u) p false) ∙ greatest_holds pair k (literal p false) (literal q false) h other on u lu ∙ value_of_literal (row_at pair other u) q false)
+never_together_in pair k p q run other t u is lt on lu same apart (true, h) =
     not_self (bit (row_at pair run t) q) (sym same ∙ sym (value_of_literal (row_at pair run t) p false) ∙ greatest_holds pair k (literal p false) (literal q true) h run is t lt ∙ value_of_literal (row_at pair run t) q true)
   where
     not_self : (b : Bool) → b ≡ not b → ⊥
     not_self true e = true≢false e
     not_self false e = true≢false (sym e)
+
+-- so are two that are equal in one frame of a run and differ in another
+pub never_together : (pair : Pair) (k p q : ℕ) (run : Path) (t u : ℕ) → IsRun pair run → t < length run.inputs → u < length run.inputs
+    → bit (row_at pair run t) p ≡ bit (row_at pair run t) q → bit (row_at pair run u) p ≢ bit (row_at pair run u) q → Together pair k p q → ⊥
+never_together pair k p q run t u is lt lu = never_together_in pair k p q run run t u is lt is lu
 
 -- lists of known lengths
 pub one_bit : (xs : List Bool) → length xs ≡ 1 → (a : Bool) × (xs ≡ a ∷ [])
@@ -29,7 +34,7 @@ one_bit [] e = absurd (omega arith)
 one_bit (a ∷ []) e = (a, refl)
 one_bit (a ∷ b ∷ xs) e = absurd (omega arith)
 
-two_bits : (xs : List Bool) → length xs ≡ 2 → (a : Bool) × (b : Bool) × (xs ≡ a ∷ b ∷ [])
+pub two_bits : (xs : List Bool) → length xs ≡ 2 → (a : Bool) × (b : Bool) × (xs ≡ a ∷ b ∷ [])
 two_bits [] e = absurd (omega arith)
 two_bits (a ∷ xs) e = let (b, is) = one_bit xs (omega arith) in (a, b, ap (λ (ys : List Bool). a ∷ ys) is)
 
@@ -37,12 +42,12 @@ pub no_bits : (xs : List Bool) → length xs ≡ 0 → xs ≡ []
 no_bits [] e = refl
 no_bits (a ∷ xs) e = absurd (omega arith)
 
-one_row : (rows : List (List Bool)) → length rows ≡ 1 → All (λ (r : List Bool). length r ≡ 0) rows → rows ≡ [] ∷ []
+pub one_row : (rows : List (List Bool)) → length rows ≡ 1 → All (λ (r : List Bool). length r ≡ 0) rows → rows ≡ [] ∷ []
 one_row [] e all = absurd (omega arith)
 one_row (r ∷ []) e all = ap (λ (s : List Bool). s ∷ []) (no_bits r (All-head (λ (r : List Bool). length r ≡ 0) r [] all))
 one_row (r ∷ s ∷ rows) e all = absurd (omega arith)
 
-two_rows : (rows : List (List Bool)) → length rows ≡ 2 → All (λ (r : List Bool). length r ≡ 0) rows → rows ≡ [] ∷ [] ∷ []
+pub two_rows : (rows : List (List Bool)) → length rows ≡ 2 → All (λ (r : List Bool). length r ≡ 0) rows → rows ≡ [] ∷ [] ∷ []
 two_rows [] e all = absurd (omega arith)
 two_rows (r ∷ rows) e all = ap₂ (λ (s : List Bool) (ss : List (List Bool)). s ∷ ss) (no_bits r (All-head (λ (r : List Bool). length r ≡ 0) r rows all)) (one_row rows (omega arith) (All-tail (λ (r : List Bool). length r ≡ 0) r rows all))
 
@@ -53,7 +58,7 @@ short start = record { start = start; inputs = [] ∷ [] }
 abbrev pub long : List Bool → Path
 long start = record { start = start; inputs = [] ∷ [] ∷ [] }
 
-abbrev both : List (ℕ × ℕ)
+abbrev pub both : List (ℕ × ℕ)
 both = (2, 4) ∷ []
 
 -- a run of the toggling latches starts at 0 and 0
@@ -92,7 +97,7 @@ together : Together two 1 1 2
 together = (false, (both, toggles_correspond, (0, omega arith, refl)))
 
 two_run : IsRun two (long (false ∷ false ∷ []))
-two_run = record { is_path = record { start = refl; inputs = All-from_recursion (IsInputRow two) ([] ∷ [] ∷ []) (refl, (refl, tt)) }; reset = reset }
+two_run = record { is_path = record { start = refl; inputs = All-from_recursion (IsInputRow two) ([] ∷ [] ∷ []) (refl, (refl, tt)) }; reset = reset; ties = λ no. absurd (let f : ⊥ = cc in f) }
   where
     reset : (i : ℕ) → i < 2 → MayStartAt (slice_index_or (resets two) i Free) (bit (false ∷ false ∷ []) i)
     reset zero lt = refl
@@ -112,7 +117,7 @@ two_least (suc (suc zero)) lt = (1, omega arith, together)
 two_least (suc (suc (suc p))) lt = absurd (omega arith)
 
 two_sound : IsSoundPair two
-two_sound = record { left = toggle_sound; right = toggle_sound; inputs = refl; outputs = refl }
+two_sound = record { left = toggle_sound; right = toggle_sound; inputs = refl; outputs = refl; ties = λ no. absurd (let f : ⊥ = cc in f) }
 
 two_paired : (j : ℕ) → j < 1 → IsPaired two 1 j
 two_paired zero lt = (both, toggles_correspond, (0, omega arith, refl))

@@ -8,8 +8,8 @@ use Rattle.corr_certificate.specs.Parts.{Either}
 use Rattle.corr_certificate.specs.Writing.{part_text, AddsMember, AddsMembers, AreMembers, IsMember}
 
 -- line 1, in three pieces
-pub head_is : (t u v w a b : List ℕ) → u ≡ t ++ a → v ≡ u ++ b → w ≡ v ++ 10 ∷ [] → w ≡ t ++ (a ++ (b ++ 10 ∷ []))
-head_is t u v w a b e f g = g ∙ ap (λ (l : List ℕ). l ++ 10 ∷ []) (f ∙ ap (λ (l : List ℕ). l ++ b) e) ∙ append_assoc (t ++ a) b (10 ∷ []) ∙ append_assoc t a (b ++ 10 ∷ [])
+pub head_is : (t u v w a b d : List ℕ) → u ≡ t ++ a → v ≡ u ++ b → w ≡ v ++ d → w ≡ t ++ (a ++ (b ++ d))
+head_is t u v w a b d e f g = g ∙ ap (λ (l : List ℕ). l ++ d) (f ∙ ap (λ (l : List ℕ). l ++ b) e) ∙ append_assoc (t ++ a) b d ∙ append_assoc t a (b ++ d)
 
 -- the parts of all places before this one stand after a text
 pub record SoFar (pair : Pair) (k : ℕ) (classes : Classes) (place : ℕ) (before text : List ℕ) : Type 0 where

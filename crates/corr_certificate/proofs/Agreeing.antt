@@ -17,7 +17,7 @@ use Rattle.corr_certificate.specs.declared.fault.CertKind.TheVariants as kinds
 use Rattle.corr_certificate.specs.declared.fault.Checked.TheVariants.{Yes}
 use Rattle.corr_certificate.specs.ClassLines.{ClassPart, none_joined, classes_from}
 use Rattle.corr_certificate.specs.Parts.{IsNo, Either}
-use Rattle.corr_certificate.specs.Certificate.{Head, head_of, PairOutputs, ReadsBody, AfterClasses, AfterHead, ReadsHead, IsSupported}
+use Rattle.corr_certificate.specs.Certificate.{Head, head_of, PairOutputs, ReadsBody, AfterClasses, same_bit, AfterHead, ReadsHead, IsSupported}
 use Rattle.corr_certificate.proofs.Supporting.{never, yes_members}
 use Rattle.corr_certificate.proofs.Passing.{passes}
 use Rattle.corr_certificate.proofs.Joining.{read_partition}
@@ -54,12 +54,20 @@ head_agrees pair whole (Some head) ls j sound h lt = by_depth (leb 1 head.k) ref
     by_classes some (Err n) e h = never _ _ h
     by_classes some (Ok p) e h = body_agrees pair head.k p.classes whole p.line p.rest j sound (read_partition pair 2 ls p e) some h lt
 
-    by_signals : 1 ≤ head.k → (b : Bool) → Either b (AfterClasses pair head.k whole Yes (classes_from pair (none_joined (places_of pair)) 2 ls)) (IsNo Yes kinds.Signals 1) → AgreeForEver pair j
-    by_signals some true h = by_classes some (classes_from pair (none_joined (places_of pair)) 2 ls) refl h
+    by_tie : 1 ≤ head.k → (b : Bool) → Either b (AfterClasses pair head.k whole Yes (classes_from pair (none_joined (places_of pair)) 2 ls)) (IsNo Yes kinds.Tie 1) → AgreeForEver pair j
+    by_tie some true h = by_classes some (classes_from pair (none_joined (places_of pair)) 2 ls) refl h
+    by_tie some false h = never _ _ h
+
+    by_signals : 1 ≤ head.k → (b : Bool)
+        → Either b (Either (same_bit head.tied pair.tied) (AfterClasses pair head.k whole Yes (classes_from pair (none_joined (places_of pair)) 2 ls)) (IsNo Yes kinds.Tie 1)) (IsNo Yes kinds.Signals 1)
+        → AgreeForEver pair j
+    by_signals some true h = by_tie some (same_bit head.tied pair.tied) h
     by_signals some false h = never _ _ h
 
     by_depth : (a : Bool) → leb 1 head.k ≡ a → (b : Bool)
-        → Either (a && b) (Either (head.signals == places_of pair) (AfterClasses pair head.k whole Yes (classes_from pair (none_joined (places_of pair)) 2 ls)) (IsNo Yes kinds.Signals 1)) (IsNo Yes kinds.Limit 1)
+        → Either (a && b)
+        (Either (head.signals == places_of pair) (Either (same_bit head.tied pair.tied) (AfterClasses pair head.k whole Yes (classes_from pair (none_joined (places_of pair)) 2 ls)) (IsNo Yes kinds.Tie 1)) (IsNo Yes kinds.Signals 1))
+        (IsNo Yes kinds.Limit 1)
         → AgreeForEver pair j
     by_depth true e true h = by_signals (leb-true 1 head.k e) (head.signals == places_of pair) h
     by_depth true e false h = never _ _ h

@@ -6,8 +6,8 @@ use Rattle.circ_model.specs.Meaning.{Pair, IsSoundPair, places_of}
 use Rattle.product_machine.proofs.Size.{few_places}
 use Rattle.sat_log.specs.Pieces.{pieces, last_of}
 use Rattle.sat_log.proofs.Again.{piece_again, last_again, decimal_spells, none_is}
-use Rattle.corr_certificate.specs.Certificate.{head_of, head_words}
-use Rattle.corr_certificate.specs.Writing.{head_text}
+use Rattle.corr_certificate.specs.Certificate.{head_of, head_words, tie_of}
+use Rattle.corr_certificate.specs.Writing.{head_text, tie_text}
 use Rattle.corr_certificate.proofs.NamesAgain.{number_again}
 
 -- a text without separators is one last piece
@@ -35,67 +35,97 @@ ends_with separator (b ∷ bs) = by (b == separator) refl (ends_with separator b
     by true t h = record { first = []; others = h.first ∷ h.others; pieces_are = (let p = h.pieces_are in rw (t, p) refl); last_is = (let l = h.last_is in rw (t, l) refl) }
     by false t h = record { first = b ∷ h.first; others = h.others; pieces_are = (let p = h.pieces_are in rw (t, p) refl); last_is = (let p = h.pieces_are in let l = h.last_is in rw (t, p, l) refl) }
 
+-- words, each with a space after it, and a last one
+abbrev pub spaced : List (List ℕ) → List ℕ → List ℕ
+spaced [] last = last
+spaced (w ∷ ws) last = w ++ 32 ∷ spaced ws last
+
+-- a byte stands in none of some words
+abbrev Without : ℕ → List ℕ → Type 0
+Without b text = AllByRecursion (λ d. d ≢ b) text
+
+abbrev AllWithout : ℕ → List (List ℕ) → Type 0
+AllWithout b [] = Unit {0}
+AllWithout b (w ∷ ws) = Without b w × AllWithout b ws
+
+words_again : (ws : List (List ℕ)) (last : List ℕ) → AllWithout 32 ws → Without 32 last → (pieces 32 (spaced ws last) ≡ ws) × (last_of 32 (spaced ws last) ≡ last)
+words_again [] last all end = only_again 32 last end
+words_again (w ∷ ws) last all end =
+    let h = words_again ws last all.1 end in
+    (piece_again 32 w (spaced ws last) all.0 ∙ ap (λ (ps : List (List ℕ)). w ∷ ps) h.0, last_again 32 w (spaced ws last) all.0 ∙ h.1)
+
+without_both : (b : ℕ) (xs ys : List ℕ) → Without b xs → Without b ys → Without b (xs ++ ys)
+without_both b [] ys p q = q
+without_both b (x ∷ xs) ys p q = (p.0, without_both b xs ys p.1 q)
+
+without_spaced : (b : ℕ) (ws : List (List ℕ)) (last : List ℕ) → 32 ≢ b → AllWithout b ws → Without b last → Without b (spaced ws last)
+without_spaced b [] last apart all end = end
+without_spaced b (w ∷ ws) last apart all end = without_both b w (32 ∷ spaced ws last) all.0 (apart, without_spaced b ws last apart all.1 end)
+
 -- line 1
+abbrev tie_word : Bool → List ℕ
+tie_word false = codes "tie=0"
+tie_word true = codes "tie=1"
+
+abbrev first_words : ℕ → ℕ → List (List ℕ)
+first_words k n = codes "seccert" ∷ codes "2" ∷ (codes "k=" ++ decimal k) ∷ (codes "signals=" ++ decimal n) ∷ []
+
 abbrev pub head_line : Pair → ℕ → List ℕ
-head_line pair k = codes "seccert 1 k=" ++ (decimal k ++ (codes " signals=" ++ decimal (places_of pair)))
+head_line pair k = spaced (first_words k (places_of pair)) (tie_word pair.tied)
+
+tie_split : (t : Bool) (rest : List ℕ) → tie_text t ++ rest ≡ (32 ∷ tie_word t) ++ 10 ∷ rest
+tie_split false rest = refl
+tie_split true rest = refl
 
 pub head_split : (pair : Pair) (k : ℕ) (rest : List ℕ) → head_text pair k ++ rest ≡ head_line pair k ++ 10 ∷ rest
 head_split pair k rest =
     let n : List ℕ = decimal (places_of pair) in
-    ap (λ (l : List ℕ). codes "seccert 1 k=" ++ l)
-    (append_assoc (decimal k) (codes " signals=" ++ (n ++ codes "\n")) rest
-    ∙ ap (λ (l : List ℕ). decimal k ++ (codes " signals=" ++ l)) (append_assoc n (10 ∷ []) rest)
-    ∙ sym (append_assoc (decimal k) (codes " signals=" ++ n) (10 ∷ rest)))
+    let t : List ℕ = tie_text pair.tied in
+    let w : List ℕ = 32 ∷ tie_word pair.tied in
+    ap (λ (l : List ℕ). codes "seccert 2 k=" ++ l)
+    (append_assoc (decimal k) (codes " signals=" ++ (n ++ t)) rest
+    ∙ ap (λ (l : List ℕ). decimal k ++ (codes " signals=" ++ l)) (append_assoc n t rest ∙ ap (λ (l : List ℕ). n ++ l) (tie_split pair.tied rest) ∙ sym (append_assoc n w (10 ∷ rest)))
+    ∙ sym (append_assoc (decimal k) (codes " signals=" ++ (n ++ w)) (10 ∷ rest)))
 
-number_plain : (b n : ℕ) → b < 48 → n < 4294967296 → AllByRecursion (λ d. d ≢ b) (decimal n)
+number_plain : (b n : ℕ) → b < 48 → n < 4294967296 → Without b (decimal n)
 number_plain b n lt small = none_is b (decimal n) lt (decimal_spells n (omega arith)).digits
 
-all_both : (b : ℕ) (xs ys : List ℕ) → AllByRecursion (λ d. d ≢ b) xs → AllByRecursion (λ d. d ≢ b) ys → AllByRecursion (λ d. d ≢ b) (xs ++ ys)
-all_both b [] ys p q = q
-all_both b (x ∷ xs) ys p q = (p.0, all_both b xs ys p.1 q)
-
--- a word that is written out
-word_plain : (b : ℕ) → b < 45 → (AllByRecursion (λ d. d ≢ b) (codes "k=")) × (AllByRecursion (λ d. d ≢ b) (codes "signals=")) × (AllByRecursion (λ d. d ≢ b) (codes "seccert")) × (AllByRecursion (λ d. d ≢ b) (codes "1"))
-word_plain b lt = (
-  ((λ e. omega arith), ((λ e. omega arith), tt)),
-  ((λ e. omega arith), ((λ e. omega arith), ((λ e. omega arith), ((λ e. omega arith), ((λ e. omega arith), ((λ e. omega arith), ((λ e. omega arith), ((λ e. omega arith), tt)))))))),
+-- neither a space nor an LF stands in a word of line 1
+first_plain : (b k n : ℕ) → b < 45 → k < 4294967296 → n < 4294967296 → AllWithout b (first_words k n)
+first_plain b k n lt few small = (
   ((λ e. omega arith), ((λ e. omega arith), ((λ e. omega arith), ((λ e. omega arith), ((λ e. omega arith), ((λ e. omega arith), ((λ e. omega arith), tt))))))),
-  ((λ e. omega arith), tt),
+  (
+    ((λ e. omega arith), tt),
+    (
+      ((λ e. omega arith), ((λ e. omega arith), number_plain b k (omega arith) few)),
+      (
+        ((λ e. omega arith), ((λ e. omega arith), ((λ e. omega arith), ((λ e. omega arith), ((λ e. omega arith), ((λ e. omega arith), ((λ e. omega arith), ((λ e. omega arith), number_plain b n (omega arith) small)))))))),
+        tt,
+      ),
+    ),
+  ),
 )
+
+tie_plain : (b : ℕ) (t : Bool) → b < 45 → Without b (tie_word t)
+tie_plain b false lt = ((λ e. omega arith), ((λ e. omega arith), ((λ e. omega arith), ((λ e. omega arith), ((λ e. omega arith), tt)))))
+tie_plain b true lt = ((λ e. omega arith), ((λ e. omega arith), ((λ e. omega arith), ((λ e. omega arith), ((λ e. omega arith), tt)))))
 
 pub head_plain : (pair : Pair) (k : ℕ) → IsSoundPair pair → k ≤ 16 → AllByRecursion (λ b. b ≢ 10) (head_line pair k)
 head_plain pair k sound few =
-    let w = word_plain 10 (omega arith) in
     let size = few_places pair sound in
-    let one : List ℕ = codes "1" in
-    all_both 10 (codes "seccert") (32 ∷ (one ++ 32 ∷ (codes "k=" ++ (decimal k ++ (32 ∷ (codes "signals=" ++ decimal (places_of pair))))))) w.2 (
-      (λ e. omega arith),
-      all_both 10 one (32 ∷ (codes "k=" ++ (decimal k ++ (32 ∷ (codes "signals=" ++ decimal (places_of pair)))))) w.3 (
-        (λ e. omega arith),
-        all_both 10 (codes "k=") (decimal k ++ (32 ∷ (codes "signals=" ++ decimal (places_of pair)))) w.0
-            (all_both 10 (decimal k) (32 ∷ (codes "signals=" ++ decimal (places_of pair))) (number_plain 10 k (omega arith) (omega arith))
-            ((λ e. omega arith), all_both 10 (codes "signals=") (decimal (places_of pair)) w.1 (number_plain 10 (places_of pair) (omega arith) (omega arith)))),
-      ),
-    )
+    without_spaced 10 (first_words k (places_of pair)) (tie_word pair.tied) (λ e. omega arith) (first_plain 10 k (places_of pair) (omega arith) (omega arith) (omega arith)) (tie_plain 10 pair.tied (omega arith))
 
-words_read : (k n : ℕ) → k < 4294967296 → n < 4294967296 → head_words (codes "seccert" ∷ codes "1" ∷ (codes "k=" ++ decimal k) ∷ []) (codes "signals=" ++ decimal n) ≡ Some (record { k = k; signals = n })
-words_read k n lt small = let a = number_again k lt in let b = number_again n small in rw (a, b) refl
+tie_again : (t : Bool) → tie_of (tie_word t) ≡ Some t
+tie_again false = refl
+tie_again true = refl
 
-pub head_again : (pair : Pair) (k : ℕ) → IsSoundPair pair → k ≤ 16 → head_of (head_line pair k) ≡ Some (record { k = k; signals = places_of pair })
+words_read : (k n : ℕ) (t : Bool) → k < 4294967296 → n < 4294967296 → head_words (first_words k n) (tie_word t) ≡ Some (record { k = k; signals = n; tied = t })
+words_read k n t lt small = let a = number_again k lt in let b = number_again n small in let c = tie_again t in rw (a, b, c) refl
+
+pub head_again : (pair : Pair) (k : ℕ) → IsSoundPair pair → k ≤ 16 → head_of (head_line pair k) ≡ Some (record { k = k; signals = places_of pair; tied = pair.tied })
 head_again pair k sound few =
     let size = few_places pair sound in
-    let w = word_plain 32 (omega arith) in
-    let kw : List ℕ = codes "k=" ++ decimal k in
-    let sw : List ℕ = codes "signals=" ++ decimal (places_of pair) in
-    let kp : AllByRecursion (λ b. b ≢ 32) kw = all_both 32 (codes "k=") (decimal k) w.0 (number_plain 32 k (omega arith) (omega arith)) in
-    let sp : AllByRecursion (λ b. b ≢ 32) sw = all_both 32 (codes "signals=") (decimal (places_of pair)) w.1 (number_plain 32 (places_of pair) (omega arith) (omega arith)) in
-    let only = only_again 32 sw sp in
-    let rest2 : List ℕ = kw ++ 32 ∷ sw in
-    let rest1 : List ℕ = codes "1" ++ 32 ∷ rest2 in
-    let line : List ℕ = codes "seccert" ++ 32 ∷ rest1 in
-    let p : pieces 32 line ≡ codes "seccert" ∷ codes "1" ∷ kw ∷ [] =
-    piece_again 32 (codes "seccert") rest1 w.2 ∙ ap (λ (ps : List (List ℕ)). codes "seccert" ∷ ps) (piece_again 32 (codes "1") rest2 w.3
-    ∙ ap (λ (ps : List (List ℕ)). codes "1" ∷ ps) (piece_again 32 kw sw kp ∙ ap (λ (ps : List (List ℕ)). kw ∷ ps) only.0)) in
-    let q : last_of 32 line ≡ sw = last_again 32 (codes "seccert") rest1 w.2 ∙ last_again 32 (codes "1") rest2 w.3 ∙ last_again 32 kw sw kp ∙ only.1 in
-    let r : head_words (codes "seccert" ∷ codes "1" ∷ kw ∷ []) sw ≡ Some (record { k = k; signals = places_of pair }) = words_read k (places_of pair) (omega arith) (omega arith) in
-    ap (λ (ps : List (List ℕ)). head_words ps (last_of 32 line)) p ∙ ap (head_words (codes "seccert" ∷ codes "1" ∷ kw ∷ [])) q ∙ r
+    let ws : List (List ℕ) = first_words k (places_of pair) in
+    let t : Bool = pair.tied in
+    let w = words_again ws (tie_word t) (first_plain 32 k (places_of pair) (omega arith) (omega arith) (omega arith)) (tie_plain 32 t (omega arith)) in
+    ap (λ (ps : List (List ℕ)). head_words ps (last_of 32 (head_line pair k))) w.0 ∙ ap (head_words ws) w.1 ∙ words_read k (places_of pair) t (omega arith) (omega arith)

@@ -16,7 +16,7 @@ use Rattle.corr_certificate.specs.declared.fault.Checked.{Checked}
 use Rattle.corr_certificate.specs.declared.fault.Checked.TheVariants.{Yes, No}
 use Rattle.corr_certificate.specs.ClassLines.{ClassPart, none_joined, classes_from}
 use Rattle.corr_certificate.specs.Parts.{IsNo, Either, More, AfterLog, ReadsLog, begins, Begins, ReadsPart, ReadsMember, ReadsEnd, ReadsMembers, base_formula, step_formula}
-use Rattle.corr_certificate.specs.Certificate.{Head, head_of, ReadsBody, AfterClasses, AfterHead, ReadsHead, IsChecked}
+use Rattle.corr_certificate.specs.Certificate.{Head, head_of, ReadsBody, AfterClasses, same_bit, AfterHead, ReadsHead, IsChecked}
 
 -- how many lines follow is one number
 follow_one : (vars : ℕ) (clauses : List (List ℤ)) (ls : List Line) (n m : ℕ) → FollowTo vars clauses ls n → FollowTo vars clauses ls m → n ≡ m
@@ -99,14 +99,15 @@ one_rest pair k whole r s (Ok p) h i = one_body pair k p.classes whole r s p.lin
 
 one_head : (pair : Pair) (whole : Bool) (r s : Checked) (o : Option Head) (ls : List (List ℕ)) → AfterHead pair whole r o ls → AfterHead pair whole s o ls → r ≡ s
 one_head pair whole r s None ls h i = h ∙ sym i
-one_head pair whole r s (Some x) ls h i = by (leb 1 x.k && leb x.k 16) (x.signals == places_of pair) h i
+one_head pair whole r s (Some x) ls h i = by (leb 1 x.k && leb x.k 16) (x.signals == places_of pair) (same_bit x.tied pair.tied) h i
   where
-    by : (a b : Bool)
-        → Either a (Either b (AfterClasses pair x.k whole r (classes_from pair (none_joined (places_of pair)) 2 ls)) (IsNo r kinds.Signals 1)) (IsNo r kinds.Limit 1)
-        → Either a (Either b (AfterClasses pair x.k whole s (classes_from pair (none_joined (places_of pair)) 2 ls)) (IsNo s kinds.Signals 1)) (IsNo s kinds.Limit 1) → r ≡ s
-    by true true h i = one_rest pair x.k whole r s (classes_from pair (none_joined (places_of pair)) 2 ls) h i
-    by true false h i = h ∙ sym i
-    by false b h i = h ∙ sym i
+    by : (a b c : Bool)
+        → Either a (Either b (Either c (AfterClasses pair x.k whole r (classes_from pair (none_joined (places_of pair)) 2 ls)) (IsNo r kinds.Tie 1)) (IsNo r kinds.Signals 1)) (IsNo r kinds.Limit 1)
+        → Either a (Either b (Either c (AfterClasses pair x.k whole s (classes_from pair (none_joined (places_of pair)) 2 ls)) (IsNo s kinds.Tie 1)) (IsNo s kinds.Signals 1)) (IsNo s kinds.Limit 1) → r ≡ s
+    by true true true h i = one_rest pair x.k whole r s (classes_from pair (none_joined (places_of pair)) 2 ls) h i
+    by true true false h i = h ∙ sym i
+    by true false c h i = h ∙ sym i
+    by false b c h i = h ∙ sym i
 
 pub one_answer : (pair : Pair) (bytes : List ℕ) (r s : Checked) → IsChecked pair bytes r → IsChecked pair bytes s → r ≡ s
 one_answer pair bytes r s h i = by (length (last_of 10 bytes) == 0) (pieces 10 bytes) h i

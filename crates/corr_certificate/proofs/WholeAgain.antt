@@ -18,7 +18,7 @@ use Rattle.corr_certificate.specs.declared.fault.CertKind.TheVariants as kinds
 use Rattle.corr_certificate.specs.declared.fault.Checked.TheVariants.{Yes}
 use Rattle.corr_certificate.specs.ClassLines.{none_joined, classes_from}
 use Rattle.corr_certificate.specs.Parts.{IsNo, Either, ReadsMembers, base_formula, step_formula}
-use Rattle.corr_certificate.specs.Certificate.{Head, PairOutputs, ReadsBody, AfterClasses, AfterHead, ReadsHead, IsSupported}
+use Rattle.corr_certificate.specs.Certificate.{Head, PairOutputs, ReadsBody, AfterClasses, same_bit, AfterHead, ReadsHead, IsSupported}
 use Rattle.corr_certificate.specs.Writing.{head_text, AreMembers, IsMember, IsCertificate, Derives}
 use Rattle.corr_certificate.proofs.HeadAgain.{head_line, head_split, head_plain, head_again, ends_with}
 use Rattle.corr_certificate.proofs.PartsAgain.{members_follow, members_read, members_end}
@@ -130,8 +130,12 @@ body_reads pair k c e line parts sound partition outputs agree are =
     subst (λ (ls : List (List ℕ)). ReadsBody pair k e true Yes line ls) (sym p)
     (inl (outputs_kept pair c e sound agree outputs, subst (λ (ls : List (List ℕ)). ReadsMembers pair k e true Yes (range_with_len 0 (places_of pair)) line ls) p r))
 
+bit_itself : (b : Bool) → same_bit b b ≡ true
+bit_itself true = refl
+bit_itself false = refl
+
 after_head : (pair : Pair) (k : ℕ) (c : Classes) (parts : List ℕ) → IsSoundPair pair → 0 < k → k ≤ 16 → ArePartition (places_of pair) c → PairOutputs pair c
-    → AreMembers pair k c (range_with_len 0 (places_of pair)) parts → AfterHead pair true Yes (Some (record { k = k; signals = places_of pair })) (pieces 10 (class_lines pair c ++ parts))
+    → AreMembers pair k c (range_with_len 0 (places_of pair)) parts → AfterHead pair true Yes (Some (record { k = k; signals = places_of pair; tied = pair.tied })) (pieces 10 (class_lines pair c ++ parts))
 after_head pair k c parts sound some few partition outputs are =
     let n : ℕ = places_of pair in
     let f = members_follow pair k c 0 n parts sound (omega arith) are in
@@ -143,8 +147,10 @@ after_head pair k c parts sound some few partition outputs are =
     let ls : List (List ℕ) = pieces 10 (class_lines pair c ++ parts) in
     let classes : AfterClasses pair k true Yes (classes_from pair (none_joined n) 2 ls) =
     subst (AfterClasses pair k true Yes) (sym read.read) (body_reads pair k c read.classes read.last parts sound partition outputs (all_read n c read.classes partition read.state) are) in
-    subst (λ (b : Bool). Either b (Either (n == n) (AfterClasses pair k true Yes (classes_from pair (none_joined n) 2 ls)) (IsNo Yes kinds.Signals 1)) (IsNo Yes kinds.Limit 1)) (sym depth)
-    (subst (λ (b : Bool). Either b (AfterClasses pair k true Yes (classes_from pair (none_joined n) 2 ls)) (IsNo Yes kinds.Signals 1)) (sym signals) classes)
+    let read_on : Type 0 = AfterClasses pair k true Yes (classes_from pair (none_joined n) 2 ls) in
+    let tied : Either (same_bit pair.tied pair.tied) read_on (IsNo Yes kinds.Tie 1) = subst (λ (b : Bool). Either b read_on (IsNo Yes kinds.Tie 1)) (sym (bit_itself pair.tied)) classes in
+    subst (λ (b : Bool). Either b (Either (n == n) (Either (same_bit pair.tied pair.tied) read_on (IsNo Yes kinds.Tie 1)) (IsNo Yes kinds.Signals 1)) (IsNo Yes kinds.Limit 1)) (sym depth)
+    (subst (λ (b : Bool). Either b (Either (same_bit pair.tied pair.tied) read_on (IsNo Yes kinds.Tie 1)) (IsNo Yes kinds.Signals 1)) (sym signals) tied)
 
 pub written_supports : (pair : Pair) (k : ℕ) (c : Classes) (text : List ℕ) → IsSoundPair pair → 0 < k → k ≤ 16 → ArePartition (places_of pair) c → PairOutputs pair c → IsCertificate pair k c text → IsSupported pair text
 written_supports pair k c text sound some few partition outputs cert =

@@ -1,5 +1,5 @@
 -- The text of a certificate for classes whose needed pairs have these logs.
-use Rattle.std.specs.Prelude.{◌≡◌, ◌<◌, ◌≤◌, ℕ, List, [], ◌∷◌, ◌++◌, length, codes, decimal}
+use Rattle.std.specs.Prelude.{◌≡◌, ◌<◌, ◌≤◌, ℕ, Bool, true, false, List, [], ◌∷◌, ◌++◌, length, codes, decimal}
 use Rattle.std.specs.List.{All, range_with_len}
 use Rattle.circ_model.specs.Meaning.{Pair, places_of}
 use Rattle.class_partition.specs.Classes.{Classes, ArePartition, IsStable, is_least}
@@ -13,9 +13,13 @@ use Rattle.class_text.specs.ClassLines.{name_of, class_lines}
 use Rattle.corr_certificate.specs.Parts.{Either, base_formula, step_formula}
 use Rattle.corr_certificate.specs.Trimming.{IsTrimmed}
 
--- the depth of the induction, and how many signals there are
+-- the depth of the induction, how many signals there are, and whether the free latches are tied
+abbrev pub tie_text : Bool → List ℕ
+tie_text false = codes " tie=0\n"
+tie_text true = codes " tie=1\n"
+
 abbrev pub head_text : Pair → ℕ → List ℕ
-head_text pair k = codes "seccert 1 k=" ++ (decimal k ++ (codes " signals=" ++ (decimal (places_of pair) ++ codes "\n")))
+head_text pair k = codes "seccert 2 k=" ++ (decimal k ++ (codes " signals=" ++ (decimal (places_of pair) ++ tie_text pair.tied)))
 
 -- a line with the member's name, and a log
 abbrev pub part_text : Pair → List ℕ → ℕ → List Line → List ℕ

@@ -19,6 +19,8 @@ pub enum CertKind {
     Order,
     /// A log that isn't accepted.
     Derivation,
+    /// Free latches that are tied where those of the pair aren't, or aren't where those are.
+    Tie,
 }
 
 /// A fault and its line, counted from 1.

@@ -14,7 +14,7 @@ ghost use Rattle.class_text.specs.ClassLines.{name_of};
 ghost use Rattle.corr_certificate.specs.Certificate.{IsSupported, PairOutputs};
 ghost use Rattle.corr_certificate.specs.Parts.{base_formula, step_formula};
 ghost use Rattle.corr_certificate.specs.Trimming.{IsTrimmed};
-ghost use Rattle.corr_certificate.specs.Writing.{head_text, AreFrames, AreProved, AddsMember, AddsMembers, IsCertificate};
+ghost use Rattle.corr_certificate.specs.Writing.{head_text, tie_text, AreFrames, AreProved, AddsMember, AddsMembers, IsCertificate};
 
 use crate::trimming::trimmed;
 use circ_model::{Lit, Signal};
@@ -36,13 +36,25 @@ fn push_field(word: &[u8], number: u32, text: &mut Vec<u8>) -> Result<(), AllocE
     Ok(())
 }
 
+// Adds whether the free latches are tied, and the end of line 1.
+fn push_tie(tied: bool, text: &mut Vec<u8>) -> Result<(), AllocError>
+    ensures { OnOk result (text.new.items ≡ text.old.items ++ tie_text tied) }
+{
+    if tied {
+        text.extend_from_slice(b" tie=1\n")?;
+    } else {
+        text.extend_from_slice(b" tie=0\n")?;
+    }
+    Ok(())
+}
+
 // Adds line 1.
 fn push_head(product: &Product, k: u32, text: &mut Vec<u8>) -> Result<(), AllocError>
     ensures { OnOk result (text.new.items ≡ text.old.items ++ head_text product.now k) }
 {
-    push_field(b"seccert 1 k=", k, text)?;
+    push_field(b"seccert 2 k=", k, text)?;
     push_field(b" signals=", product.len(), text)?;
-    text.push(b'\n')?;
+    push_tie(product.is_tied(), text)?;
     Ok(())
 }
 

@@ -1,5 +1,5 @@
 -- What is assumed of the step's frames, as one literal.
-use Rattle.std.proofs.Common.{◌≡◌, ◌∙◌, ◌&&◌, ℕ, Bool, true, false, All, Option, Some, None, IfNone, List, [], ◌∷◌, refl, ap, sym, subst}
+use Rattle.std.proofs.Common.{◌≡◌, ◌∙◌, ◌&&◌, ℕ, Bool, true, false, All, Option, Some, None, IfNone, List, [], ◌∷◌, refl, ap, sym}
 use Rattle.std.proofs.lemmas.List.Elements.{All-cons, All-head, All-nil}
 use Rattle.circ_model.specs.Meaning.{literal_value, signed}
 use Rattle.class_partition.specs.Classes.{Classes}

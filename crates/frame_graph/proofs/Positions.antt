@@ -1,16 +1,16 @@
 -- Where the free bits of a path stand in its rows.
-use Rattle.std.proofs.Common.{◌≡◌, ◌∙◌, ◌<◌, ◌≤◌, ◌+◌, ◌-◌, ℕ, suc, false, List, ◌∷◌, length, map, get_or, ap, sym, subst, arith, zero-add}
-use Rattle.std.proofs.lemmas.List.{get_or_default, get_or-take, get_or-drop, length-map}
+use Rattle.std.proofs.Common.{◌≡◌, ◌∙◌, ◌<◌, ◌≤◌, ◌+◌, ◌-◌, ℕ, suc, false, List, [], ◌∷◌, length, get_or, ap, sym, subst, arith, zero-add}
+use Rattle.std.proofs.lemmas.List.{get_or_default, get_or-take, get_or-drop}
 use Rattle.circ_model.specs.Netlist.{Netlist, no_gate}
 use Rattle.circ_model.specs.Meaning.{Pair, IsSoundPair, Path, IsPath, bit, inputs_at, latches_of, left_from, left_leaves_at, left_literal, left_place, places_of, right_from, right_leaves_at, right_literal, right_place, row_at, state_at}
 use Rattle.circ_model.proofs.Order.{ordered}
 use Rattle.circ_model.proofs.Rows.{inputs_length, length_own, length_row_left, row_left, rows_of, shared_bit}
 use Rattle.product_machine.specs.declared.cell.Cell.{Cell}
 use Rattle.product_machine.specs.declared.cell.Cell.TheVariants.{Low, Given, Held, Product}
-use Rattle.product_machine.specs.Cells.{EachAt, Rests, cells, gate_cell, latch_cell, own_cells}
+use Rattle.product_machine.specs.Cells.{EachAt, Rests, cells, latch_cell, own_cells, partners}
 use Rattle.product_machine.specs.Signals.{cell_at}
 use Rattle.product_machine.proofs.Follow.{arranged, each_cell, left_placed, left_runs, length_cells, right_placed, right_runs}
-use Rattle.product_machine.proofs.Sides.{each_append, each_map, latch_value, no_latch}
+use Rattle.product_machine.proofs.Sides.{each_side, latch_value}
 use Rattle.frame_graph.specs.Cells.{IsInput, IsLatch}
 
 -- what is read of the cells, and what it rests on
@@ -26,12 +26,9 @@ rests_at pair p cell is lt e =
 each_at : (P : ℕ → Cell → Type 0) (pair : Pair) (p : ℕ) → EachAt P 0 (cells pair) → p < places_of pair → P p (cell_at pair p)
 each_at P pair p each lt = subst (λ (q : ℕ). P q (cell_at pair p)) (zero-add p) (each p (omega (arith, length_cells pair)))
 
-side : (P : ℕ → Cell → Type 0) (from : ℕ) (literal : ℕ → ℕ) (net : Netlist) → ((k : ℕ) → k < length net.latches → (c : Cell) → IsLatch c → P (from + k) c) → ((k : ℕ) (a b : ℕ) → P (from + length net.latches + k) (Product a b)) → EachAt P from (own_cells literal net)
-side P from literal net latch gate =
-    each_append P from (from + length net.latches) (map (latch_cell literal) net.latches) (map (gate_cell literal) net.gates)
-    (let e = length-map net.latches (latch_cell literal) in omega arith)
-    (each_map P from (latch_cell literal) net.latches no_latch (λ k lt. latch k lt (latch_cell literal (get_or net.latches k no_latch)) tt))
-    (each_map P (from + length net.latches) (gate_cell literal) net.gates no_gate (λ k lt. gate k (literal (get_or net.gates k no_gate).left) (literal (get_or net.gates k no_gate).right)))
+side : (P : ℕ → Cell → Type 0) (from : ℕ) (literal : ℕ → ℕ) (starts : List ℕ) (net : Netlist) → ((k : ℕ) → k < length net.latches → (c : Cell) → IsLatch c → P (from + k) c) → ((k : ℕ) (a b : ℕ) → P (from + length net.latches + k) (Product a b)) → EachAt P from (own_cells literal starts net)
+side P from literal starts net latch gate =
+    each_side P from literal starts net (λ k lt. latch k lt (latch_cell literal starts net.latches k) tt) (λ k lt. gate k (literal (get_or net.gates k no_gate).left) (literal (get_or net.gates k no_gate).right))
 
 -- an input's place, and its bit
 pub record IsInputBit (pair : Pair) (p : ℕ) : Type 0 where
@@ -54,14 +51,14 @@ pub input_at : (pair : Pair) (p : ℕ) → IsSoundPair pair → p < places_of pa
 input_at pair p is lt input =
     each_at (λ q c. IsInput c → IsInputBit pair q) pair p
     (each_cell (λ q c. IsInput c → IsInputBit pair q) pair is (λ no. absurd no) (λ k less yes. input_bit pair k is less)
-    (side (λ q c. IsInput c → IsInputBit pair q) (left_from pair) (left_literal pair) pair.left (λ k less c. no_input c) (λ k a b no. absurd no))
-    (side (λ q c. IsInput c → IsInputBit pair q) (right_from pair) (right_literal pair) pair.right (λ k less c. no_input c) (λ k a b no. absurd no)))
+    (side (λ q c. IsInput c → IsInputBit pair q) (left_from pair) (left_literal pair) [] pair.left (λ k less c. no_input c) (λ k a b no. absurd no))
+    (side (λ q c. IsInput c → IsInputBit pair q) (right_from pair) (right_literal pair) (partners pair) pair.right (λ k less c. no_input c) (λ k a b no. absurd no)))
     lt input
   where
     no_input : {X : Type 0} (c : Cell) → IsLatch c → IsInput c → X
     no_input Low never is = absurd never
     no_input Given never is = absurd never
-    no_input (Held reset next) latch never = absurd never
+    no_input (Held start next) latch never = absurd never
     no_input (Product a b) never is = absurd never
 
 -- a latch's place, its position in the state, and its bit
@@ -81,8 +78,8 @@ unfolding state_at
 left_bit pair k is lt = record {
   within = omega arith;
   bits = λ path on some.
-      latch_value false pair.left (left_place pair) (left_from pair) (length path.inputs) (rows_of pair path) (left_leaves_at pair path) 0 k (left_placed pair is)
-      (left_runs false pair path (length path.inputs) is on (λ no. absurd (let f : ⊥ = cc in f)) (omega arith)) some lt
+      latch_value pair.left (left_place pair) (left_from pair) (length path.inputs) (rows_of pair path) (left_leaves_at pair path) 0 k (left_placed pair is)
+      (left_runs pair path (length path.inputs) is on (omega arith)) some lt
       ∙ get_or-take (length pair.left.latches) path.start k false lt;
 }
 
@@ -91,8 +88,8 @@ unfolding state_at
 right_bit pair k is lt = record {
   within = omega arith;
   bits = λ path on some.
-      latch_value false pair.right (right_place pair) (right_from pair) (length path.inputs) (rows_of pair path) (right_leaves_at pair path) 0 k (right_placed pair is)
-      (right_runs false pair path (length path.inputs) is on (λ no. absurd (let f : ⊥ = cc in f)) (omega arith)) some lt
+      latch_value pair.right (right_place pair) (right_from pair) (length path.inputs) (rows_of pair path) (right_leaves_at pair path) 0 k (right_placed pair is)
+      (right_runs pair path (length path.inputs) is on (omega arith)) some lt
       ∙ get_or-drop (length pair.left.latches) path.start k false;
 }
 
@@ -123,8 +120,8 @@ pub latch_at : (pair : Pair) (p : ℕ) → IsSoundPair pair → p < places_of pa
 latch_at pair p is lt latch =
     each_at (λ q c. IsLatch c → IsLatchAt pair q) pair p
     (each_cell (λ q c. IsLatch c → IsLatchAt pair q) pair is (λ no. absurd no) (λ k less no. absurd no)
-    (side (λ q c. IsLatch c → IsLatchAt pair q) (left_from pair) (left_literal pair) pair.left (λ k less c yes on. left_at pair k is less) (λ k a b no. absurd no))
-    (side (λ q c. IsLatch c → IsLatchAt pair q) (right_from pair) (right_literal pair) pair.right (λ k less c yes on. right_at pair k is less) (λ k a b no. absurd no)))
+    (side (λ q c. IsLatch c → IsLatchAt pair q) (left_from pair) (left_literal pair) [] pair.left (λ k less c yes on. left_at pair k is less) (λ k a b no. absurd no))
+    (side (λ q c. IsLatch c → IsLatchAt pair q) (right_from pair) (right_literal pair) (partners pair) pair.right (λ k less c yes on. right_at pair k is less) (λ k a b no. absurd no)))
     lt latch
 
 -- as the code finds it

@@ -1,12 +1,12 @@
 -- What the places of a row are, by what stands there.
 use Rattle.std.proofs.Common.{◌≡◌, ◌≢◌, ◌∙◌, ◌<◌, ◌-◌, ◌&&◌, ℕ, zero, suc, Bool, false, List, length, ap, ap₂, refl, sym, subst, arith, zero-add}
 use Rattle.std.specs.Prelude.{IsTrue}
-use Rattle.circ_model.specs.declared.netlist.Reset.{Reset}
-use Rattle.circ_model.specs.Meaning.{IsSoundPair, Path, IsPath, MayStartAt, bit, literal, literal_value, places_of, inputs_at, row_at, signed, value_in}
+use Rattle.product_machine.specs.declared.cell.Start.{Start}
+use Rattle.circ_model.specs.Meaning.{IsSoundPair, Path, IsPath, bit, literal, literal_value, places_of, inputs_at, row_at, signed, value_in}
 use Rattle.circ_model.proofs.Literals.{signed_literal, value_of_literal}
 use Rattle.circ_model.proofs.Rows.{rows_of}
 use Rattle.product_machine.specs.declared.cell.Cell.TheVariants.{Low, Held, Product}
-use Rattle.product_machine.specs.Cells.{Fits}
+use Rattle.product_machine.specs.Cells.{Fits, StartsAs}
 use Rattle.product_machine.specs.Signals.{cell_at}
 use Rattle.product_machine.proofs.Follow.{length_cells, path_follows}
 use Rattle.circ_model.specs.Correspondence.{HoldsIn}
@@ -37,14 +37,14 @@ gate_value f literals path v p a b left right lit sound lt cell is value at_left
     ∙ sym (subst (Fits f.from_reset (rows_of f.leaves.pair path) f.number p) cell (fits f literals path v p is sound lt))
 
 -- a latch of a later frame, by its next literal
-next_fits : (r : Bool) (w : ℕ → ℕ → Bool) (t p next : ℕ) (reset : Reset) → t ≢ 0 → Fits r w t p (Held reset next) → w t p ≡ literal_value (w (t - 1)) next
-next_fits r w zero p next reset ne is = absurd (ne refl)
-next_fits r w (suc t) p next reset ne is = let e : t ≡ suc t - 1 = omega arith in is ∙ ap (λ (s : ℕ). literal_value (w s) next) e
+next_fits : (r : Bool) (w : ℕ → ℕ → Bool) (t p next : ℕ) (start : Start) → t ≢ 0 → Fits r w t p (Held start next) → w t p ≡ literal_value (w (t - 1)) next
+next_fits r w zero p next start ne is = absurd (ne refl)
+next_fits r w (suc t) p next start ne is = let e : t ≡ suc t - 1 = omega arith in is ∙ ap (λ (s : ℕ). literal_value (w s) next) e
 
-pub next_value : (f : FrameOf) (literals : List ℕ) (path : Path) (v : ℕ → Bool) (p next lit : ℕ) (reset : Reset) → IsSoundPair f.leaves.pair → p < places_of f.leaves.pair → cell_at f.leaves.pair p ≡ Held reset next → f.number ≢ 0 → Stands f literals path v
+pub next_value : (f : FrameOf) (literals : List ℕ) (path : Path) (v : ℕ → Bool) (p next lit : ℕ) (start : Start) → IsSoundPair f.leaves.pair → p < places_of f.leaves.pair → cell_at f.leaves.pair p ≡ Held start next → f.number ≢ 0 → Stands f literals path v
     → literal_value v lit ≡ value_in (row_at f.leaves.pair path (f.number - 1)) next → literal_value v lit ≡ bit (row_at f.leaves.pair path f.number) p
-next_value f literals path v p next lit reset sound lt cell ne is value =
-    value ∙ sym (next_fits f.from_reset (rows_of f.leaves.pair path) f.number p next reset ne (subst (Fits f.from_reset (rows_of f.leaves.pair path) f.number p) cell (fits f literals path v p is sound lt)))
+next_value f literals path v p next lit start sound lt cell ne is value =
+    value ∙ sym (next_fits f.from_reset (rows_of f.leaves.pair path) f.number p next start ne (subst (Fits f.from_reset (rows_of f.leaves.pair path) f.number p) cell (fits f literals path v p is sound lt)))
 
 -- a latch of the first frame, by its leaf
 pub leaf_value : (f : FrameOf) (literals : List ℕ) (path : Path) (v : ℕ → Bool) (p j lit : ℕ) → IsLatchBit f.leaves.pair p j → f.number ≡ 0 → Stands f literals path v → lit ≡ literal (latch_node f.leaves j) false
@@ -55,14 +55,14 @@ leaf_value f literals path v p j lit at first is own =
     ∙ sym (at.bits path is.is_path (omega arith)) ∙ ap (λ (t : ℕ). bit (row_at f.leaves.pair path t) p) (sym first)
 
 -- or by its reset
-starts : (r : Bool) (w : ℕ → ℕ → Bool) (t p next : ℕ) (reset : Reset) → t ≡ 0 → IsTrue r → Fits r w t p (Held reset next) → MayStartAt reset (w t p)
-starts r w zero p next reset first so is = is so
-starts r w (suc t) p next reset first so is = absurd (omega arith)
+starts : (r : Bool) (w : ℕ → ℕ → Bool) (t p next : ℕ) (start : Start) → t ≡ 0 → IsTrue r → Fits r w t p (Held start next) → StartsAs (w t) p start
+starts r w zero p next start first so is = is so
+starts r w (suc t) p next start first so is = absurd (omega arith)
 
-pub reset_fits : (f : FrameOf) (literals : List ℕ) (path : Path) (v : ℕ → Bool) (p next : ℕ) (reset : Reset) → IsSoundPair f.leaves.pair → p < places_of f.leaves.pair → cell_at f.leaves.pair p ≡ Held reset next → f.number ≡ 0 → IsTrue f.from_reset → Stands f literals path v
-    → MayStartAt reset (bit (row_at f.leaves.pair path f.number) p)
-reset_fits f literals path v p next reset sound lt cell first so is =
-    starts f.from_reset (rows_of f.leaves.pair path) f.number p next reset first so (subst (Fits f.from_reset (rows_of f.leaves.pair path) f.number p) cell (fits f literals path v p is sound lt))
+pub reset_fits : (f : FrameOf) (literals : List ℕ) (path : Path) (v : ℕ → Bool) (p next : ℕ) (start : Start) → IsSoundPair f.leaves.pair → p < places_of f.leaves.pair → cell_at f.leaves.pair p ≡ Held start next → f.number ≡ 0 → IsTrue f.from_reset → Stands f literals path v
+    → StartsAs (bit (row_at f.leaves.pair path f.number)) p start
+reset_fits f literals path v p next start sound lt cell first so is =
+    starts f.from_reset (rows_of f.leaves.pair path) f.number p next start first so (subst (Fits f.from_reset (rows_of f.leaves.pair path) f.number p) cell (fits f literals path v p is sound lt))
 
 pub constant_value : (v : ℕ → Bool) (lit : ℕ) (sign b : Bool) → v 0 ≡ false → lit ≡ literal 0 sign → b ≡ signed sign false → literal_value v lit ≡ b
 constant_value v lit sign b low own is = ap (literal_value v) own ∙ signed_literal v 0 sign ∙ ap (signed sign) low ∙ sym is

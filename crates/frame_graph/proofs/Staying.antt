@@ -1,8 +1,8 @@
 -- What a map says of a graph it says of later ones.
-use Rattle.std.proofs.Common.{◌≡◌, ◌∙◌, ◌<◌, ◌≤◌, ◌+◌, ℕ, Bool, List, length, ap, arith}
+use Rattle.std.proofs.Common.{◌∙◌, ◌+◌, ℕ, List, ap, arith}
 use Rattle.class_partition.specs.Classes.{Classes, Passes}
 use Rattle.and_graph.specs.declared.node.Node.{Node}
-use Rattle.and_graph.specs.Graphs.{GrowsTo, Obeys, node_at}
+use Rattle.and_graph.specs.Graphs.{GrowsTo}
 use Rattle.and_graph.proofs.Nodes.{obeys_before}
 use Rattle.frame_graph.specs.Inductions.{BasePasses, Induction, StepPasses}
 use Rattle.frame_graph.specs.Laws.{IsLater, IsMerged}

@@ -5,11 +5,11 @@ use Rattle.product_machine.specs.declared.cell.Cell.TheVariants.{Low, Given, Hel
 abbrev pub IsInput : Cell → Type 0
 IsInput Low = ⊥
 IsInput Given = Unit {0}
-IsInput (Held reset next) = ⊥
+IsInput (Held start next) = ⊥
 IsInput (Product a b) = ⊥
 
 abbrev pub IsLatch : Cell → Type 0
 IsLatch Low = ⊥
 IsLatch Given = ⊥
-IsLatch (Held reset next) = Unit {0}
+IsLatch (Held start next) = Unit {0}
 IsLatch (Product a b) = ⊥

@@ -14,8 +14,8 @@ use crate::cells::{cell_of, input_position, latch_position};
 use crate::frame::Frame;
 use crate::literals::literal_from;
 use and_graph::Graph;
-use circ_model::{Lit, Reset};
-use product_machine::Cell;
+use circ_model::Lit;
+use product_machine::{Cell, Start};
 use std::alloc::AllocError;
 
 // The leaf of an input.
@@ -31,37 +31,44 @@ fn input_literal(frame: &Frame, p: u32) -> Lit
     Lit::of(frame.first + (latches + (before + i)), false)
 }
 
-// The leaf of a latch, or the constant that it is reset to.
-fn start_literal(frame: &Frame, p: u32, reset: Reset) -> Lit
+// The leaf of a latch, or the constant that it starts as.
+fn start_literal(frame: &Frame, p: u32, start: Start) -> Lit
     requires place { p < places_of frame.now.product.now }
     requires latch { IsLatch (cell_at frame.now.product.now p) }
     ensures within { result / 2 < frame.now.first + leaf_count (frame_of frame.now).leaves }
-    ensures value { (literals : List ℕ) (path : Path) (v : ℕ → Bool) (next : ℕ) → cell_at frame.now.product.now p ≡ Held reset next → frame.now.number ≡ 0 → Stands (frame_of frame.now) literals path v → literal_value v result ≡ bit (row_at frame.now.product.now path frame.now.number) p }
+    ensures value { (literals : List ℕ) (path : Path) (v : ℕ → Bool) (next : ℕ) → cell_at frame.now.product.now p ≡ Held start next → frame.now.number ≡ 0 → Stands (frame_of frame.now) literals path v → literal_value v result ≡ bit (row_at frame.now.product.now path frame.now.number) p }
 {
     let _cells = frame.product.cells();
     let leaf = Lit::of(frame.first + latch_position(frame.product, p), false);
     if !frame.from_reset {
         return leaf;
     }
-    match reset {
-        Reset::Zero => Lit::of(0, false),
-        Reset::One => Lit::of(0, true),
-        Reset::Free => leaf,
+    match start {
+        Start::Zero => Lit::of(0, false),
+        Start::One => Lit::of(0, true),
+        Start::Free => leaf,
+        Start::Like(_) => leaf,
     }
 }
 
-// The literal of a latch: in a later frame that of its next literal in the frame before.
-fn latch_literal(frame: &Frame, literals: &[Lit], p: u32, reset: Reset, next: Lit) -> Lit
+// The literal of a latch: in a later frame that of its next literal in the frame before, and from reset in the first frame that of
+// the place as which it starts.
+fn latch_literal(frame: &Frame, literals: &[Lit], p: u32, start: Start, next: Lit) -> Lit
     requires place { p < places_of frame.now.product.now }
-    requires latch { cell_at frame.now.product.now p ≡ Held reset next }
+    requires latch { cell_at frame.now.product.now p ≡ Held start next }
     requires literals { length literals.now ≡ frame.now.number * places_of frame.now.product.now + p }
     ensures within { (nodes : List Node) → frame.now.first + leaf_count (frame_of frame.now).leaves ≤ length nodes → AreWithin nodes literals.now → result / 2 < length nodes }
     ensures value { (path : Path) (v : ℕ → Bool) → Stands (frame_of frame.now) literals.now path v → literal_value v result ≡ bit (row_at frame.now.product.now path frame.now.number) p }
 {
-    if frame.number == 0 {
-        return start_literal(frame, p, reset);
-    }
     let _cells = frame.product.cells();
+    if frame.number == 0 {
+        if frame.from_reset {
+            if let Start::Like(q) = start {
+                return literals[q as usize];
+            }
+        }
+        return start_literal(frame, p, start);
+    }
     literal_from(literals, frame.begin - frame.product.len() as usize, next)
 }
 
@@ -107,7 +114,7 @@ pub(crate) fn own_literal(
     match cell_of(frame.product, p) {
         Cell::Low => Ok(Lit::of(0, false)),
         Cell::Given => Ok(input_literal(frame, p)),
-        Cell::Held(reset, next) => Ok(latch_literal(frame, literals, p, reset, next)),
+        Cell::Held(start, next) => Ok(latch_literal(frame, literals, p, start, next)),
         Cell::Product(left, right) => gate_literal(frame, graph, literals, p, left, right),
     }
 }

@@ -1,13 +1,14 @@
 //! The clauses of cells: each frame's in the order of the places, frame after frame.
 ghost use Rattle.std.specs.Prelude.{◌≡◌, ◌<◌, ◌≤◌, ◌+◌, ◌-◌, ◌*◌, ◌/◌, ◌++◌, ◌∷◌, [], ℕ, List, Bool, true, false, OnOk, length};
 ghost use Rattle.circ_model.specs.Meaning.{literal, negated};
-ghost use Rattle.product_machine.specs.Cells.{Rests, IsArranged};
-ghost use Rattle.frame_unroll.specs.Frames.{literal_in, latch_clauses, cell_clauses, frame_clauses, frames};
+ghost use Rattle.product_machine.specs.declared.cell.Start.TheVariants.{Like};
+ghost use Rattle.product_machine.specs.Cells.{IsBehind, Rests, IsArranged};
+ghost use Rattle.frame_unroll.specs.Frames.{literal_in, start_clauses, latch_clauses, cell_clauses, frame_clauses, frames};
 
 use crate::adding::{add_one, add_three, add_two, literal_in, place_literal};
-use circ_model::{Lit, Reset};
+use circ_model::Lit;
 use cnf_store::Cnf;
-use product_machine::Cell;
+use product_machine::{Cell, Start};
 use std::alloc::AllocError;
 
 // The variable needs the literal.
@@ -78,26 +79,49 @@ fn add_gate(
     add_given(cnf, n, t, base, p, left, right)
 }
 
+// A latch is equal in frame 0 to the one as which it starts.
+fn add_like(cnf: &mut Cnf, n: u32, p: u32, q: u32) -> Result<(), AllocError>
+    requires place { p < n }
+    requires partner { q < n }
+    requires room { n < 2147483648 }
+    requires variables { n ≤ cnf.old.vars }
+    ensures vars { cnf.new.vars ≡ cnf.old.vars }
+    ensures ok { OnOk result (cnf.new.clauses ≡ cnf.old.clauses ++ start_clauses (literal_in n) (Like q) p) }
+{
+    add_two(
+        cnf,
+        place_literal(n, 0, 0, p, true),
+        place_literal(n, 0, 0, q, false),
+    )?;
+    add_two(
+        cnf,
+        place_literal(n, 0, 0, p, false),
+        place_literal(n, 0, 0, q, true),
+    )
+}
+
 // A latch's clauses in frame 0.
-fn add_reset(
+fn add_start(
     cnf: &mut Cnf,
     from_reset: bool,
     n: u32,
     p: u32,
-    reset: Reset,
+    start: Start,
     next: Lit,
 ) -> Result<(), AllocError>
     requires place { p < n }
+    requires behind { IsBehind p start }
     requires room { n < 2147483648 }
     requires variables { n ≤ cnf.old.vars }
     ensures vars { cnf.new.vars ≡ cnf.old.vars }
-    ensures ok { OnOk result (cnf.new.clauses ≡ cnf.old.clauses ++ latch_clauses (literal_in n) from_reset 0 p reset next) }
+    ensures ok { OnOk result (cnf.new.clauses ≡ cnf.old.clauses ++ latch_clauses (literal_in n) from_reset 0 p start next) }
 {
     if from_reset {
-        match reset {
-            Reset::Zero => add_one(cnf, place_literal(n, 0, 0, p, true))?,
-            Reset::One => add_one(cnf, place_literal(n, 0, 0, p, false))?,
-            Reset::Free => {}
+        match start {
+            Start::Zero => add_one(cnf, place_literal(n, 0, 0, p, true))?,
+            Start::One => add_one(cnf, place_literal(n, 0, 0, p, false))?,
+            Start::Free => {}
+            Start::Like(q) => add_like(cnf, n, p, q)?,
         }
     }
     Ok(())
@@ -111,7 +135,7 @@ fn add_next(
     t: u32,
     base: u32,
     p: u32,
-    reset: Reset,
+    start: Start,
     next: Lit,
 ) -> Result<(), AllocError>
     requires base { base ≡ t * n }
@@ -120,7 +144,7 @@ fn add_next(
     requires room { base + 2 * n < 2147483648 }
     requires variables { base + 2 * n ≤ cnf.old.vars }
     ensures vars { cnf.new.vars ≡ cnf.old.vars }
-    ensures ok { OnOk result (cnf.new.clauses ≡ cnf.old.clauses ++ latch_clauses (literal_in n) from_reset (t + 1) p reset next) }
+    ensures ok { OnOk result (cnf.new.clauses ≡ cnf.old.clauses ++ latch_clauses (literal_in n) from_reset (t + 1) p start next) }
 {
     let after = base + n;
     add_two(
@@ -143,21 +167,22 @@ fn add_latch(
     t: u32,
     base: u32,
     p: u32,
-    reset: Reset,
+    start: Start,
     next: Lit,
 ) -> Result<(), AllocError>
     requires base { base ≡ t * n }
     requires place { p < n }
+    requires behind { IsBehind p start }
     requires next { next / 2 < n }
     requires room { base + n < 2147483648 }
     requires variables { base + n ≤ cnf.old.vars }
     ensures vars { cnf.new.vars ≡ cnf.old.vars }
-    ensures ok { OnOk result (cnf.new.clauses ≡ cnf.old.clauses ++ latch_clauses (literal_in n) from_reset t p reset next) }
+    ensures ok { OnOk result (cnf.new.clauses ≡ cnf.old.clauses ++ latch_clauses (literal_in n) from_reset t p start next) }
 {
     if t == 0 {
-        add_reset(cnf, from_reset, n, p, reset, next)
+        add_start(cnf, from_reset, n, p, start, next)
     } else {
-        add_next(cnf, from_reset, n, t - 1, base - n, p, reset, next)
+        add_next(cnf, from_reset, n, t - 1, base - n, p, start, next)
     }
 }
 
@@ -182,7 +207,7 @@ fn add_cell(
     match cell {
         Cell::Low => add_one(cnf, place_literal(n, t, base, p, true))?,
         Cell::Given => {}
-        Cell::Held(reset, next) => add_latch(cnf, from_reset, n, t, base, p, reset, next)?,
+        Cell::Held(start, next) => add_latch(cnf, from_reset, n, t, base, p, start, next)?,
         Cell::Product(left, right) => add_gate(cnf, n, t, base, p, left, right)?,
     }
     Ok(())

@@ -1,4 +1,5 @@
 pub mod Sides
+pub mod Ties
 pub mod Follow
 pub mod Unique
 pub mod Copies
@@ -7,6 +8,8 @@ pub mod Size
 pub mod OneRow
 pub mod TableRead
 pub mod Tabling
+pub mod Starting
+pub mod Partners
 pub mod States
 pub mod Signalling
 pub mod Placing

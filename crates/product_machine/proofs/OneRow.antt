@@ -1,6 +1,6 @@
 -- The row of a state and a row of inputs, place by place.
-use Rattle.std.proofs.Common.{◌≡◌, ◌≢◌, ⊎_elim, ◌∙◌, ◌<◌, ◌≤◌, ◌+◌, ◌/◌, ℕ, suc, List, [], ◌∷◌, length, map, set, get_or, refl, ap, ap₂, sym, subst, arith, Bool, false, ◌&&◌, zero-add}
-use Rattle.std.proofs.lemmas.List.{get_or-take, get_or-drop, length-map, length-set, get_or-set_same, get_or-set_other, ext_get_or}
+use Rattle.std.proofs.Common.{◌≡◌, ◌≢◌, ⊎_elim, ◌∙◌, ◌<◌, ◌≤◌, ◌+◌, ◌/◌, ℕ, suc, List, [], ◌∷◌, length, set, get_or, refl, ap, ap₂, sym, subst, arith, Bool, false, ◌&&◌, zero-add}
+use Rattle.std.proofs.lemmas.List.{get_or-take, get_or-drop, length-set, get_or-set_same, get_or-set_other, ext_get_or}
 use Rattle.std.proofs.lemmas.Bool.{cases_eq}
 use Rattle.std.proofs.lemmas.List.Elements.{All-cons, All-nil}
 use Rattle.product_machine.specs.declared.cell.Cell.{Cell}
@@ -9,11 +9,11 @@ use Rattle.circ_model.proofs.Order.{ordered}
 use Rattle.circ_model.proofs.Rows.{length_row, rows_of, row_left, shared_bit, length_row_left}
 use Rattle.circ_model.proofs.Values.{literal_same}
 use Rattle.circ_model.specs.Meaning.{bit, literal_value, Pair, IsSoundPair, Path, IsPath, row, row_at, state_at, left_place, right_place, left_literal, right_literal, left_from, right_from, left_leaves_at, right_leaves_at}
-use Rattle.circ_model.specs.Netlist.{Netlist, no_gate}
+use Rattle.circ_model.specs.Netlist.{Netlist}
 use Rattle.product_machine.proofs.Follow.{left_placed, right_placed, left_runs, right_runs, path_follows, arranged, each_cell}
-use Rattle.product_machine.proofs.Sides.{latch_value, each_append, each_map, no_latch}
+use Rattle.product_machine.proofs.Sides.{latch_value, each_side}
 use Rattle.product_machine.specs.Eval.{IsFrame, Ready}
-use Rattle.product_machine.specs.Cells.{cells, own_cells, latch_cell, gate_cell, EachAt, Fits, Rests}
+use Rattle.product_machine.specs.Cells.{cells, partners, own_cells, EachAt, Fits, Rests}
 use Rattle.circ_model.specs.Meaning.{places_of}
 use Rattle.product_machine.proofs.Follow.{length_cells}
 
@@ -50,16 +50,16 @@ pub left_bit : (pair : Pair) (state inputs : List Bool) (k : ℕ) → IsSoundPai
 unfolding state_at
 left_bit pair state inputs k is on lt =
     let path : Path = one_frame state inputs in
-    let runs = left_runs false pair path 1 is (one_path pair state inputs on) (λ n. absurd (let f : ⊥ = cc in f)) (omega arith) in
-    latch_value false pair.left (left_place pair) (left_from pair) 1 (rows_of pair path) (left_leaves_at pair path) 0 k (left_placed pair is) runs (omega arith) lt
+    let runs = left_runs pair path 1 is (one_path pair state inputs on) (omega arith) in
+    latch_value pair.left (left_place pair) (left_from pair) 1 (rows_of pair path) (left_leaves_at pair path) 0 k (left_placed pair is) runs (omega arith) lt
     ∙ get_or-take (length pair.left.latches) state k false lt
 
 pub right_bit : (pair : Pair) (state inputs : List Bool) (k : ℕ) → IsSoundPair pair → IsFrame pair state inputs → k < length pair.right.latches → bit (row pair state inputs) (right_from pair + k) ≡ bit state (length pair.left.latches + k)
 unfolding state_at
 right_bit pair state inputs k is on lt =
     let path : Path = one_frame state inputs in
-    let runs = right_runs false pair path 1 is (one_path pair state inputs on) (λ n. absurd (let f : ⊥ = cc in f)) (omega arith) in
-    latch_value false pair.right (right_place pair) (right_from pair) 1 (rows_of pair path) (right_leaves_at pair path) 0 k (right_placed pair is) runs (omega arith) lt
+    let runs = right_runs pair path 1 is (one_path pair state inputs on) (omega arith) in
+    latch_value pair.right (right_place pair) (right_from pair) 1 (rows_of pair path) (right_leaves_at pair path) 0 k (right_placed pair is) runs (omega arith) lt
     ∙ get_or-drop (length pair.left.latches) state k false
 
 -- where a product's operands have their values, it gets its own
@@ -86,20 +86,16 @@ low_bit pair state inputs p is on lt e =
     let g : Fits false (rows_of pair path) 0 (0 + p) Low = subst (Fits false (rows_of pair path) 0 (0 + p)) e f in
     sym g ∙ ap (bit (row pair state inputs)) (zero-add p)
 
-side_ready : (values r : List Bool) (from : ℕ) (literal : ℕ → ℕ) (net : Netlist) → ((k : ℕ) → k < length net.latches → bit values (from + k) ≡ bit r (from + k)) → EachAt (Ready values r) from (own_cells literal net)
-side_ready values r from literal net h =
-    each_append (Ready values r) from (from + length net.latches) (map (latch_cell literal) net.latches) (map (gate_cell literal) net.gates)
-    (let e = length-map net.latches (latch_cell literal) in omega arith)
-    (each_map (Ready values r) from (latch_cell literal) net.latches no_latch h)
-    (each_map (Ready values r) (from + length net.latches) (gate_cell literal) net.gates no_gate (λ k less. tt))
+side_ready : (values r : List Bool) (from : ℕ) (literal : ℕ → ℕ) (starts : List ℕ) (net : Netlist) → ((k : ℕ) → k < length net.latches → bit values (from + k) ≡ bit r (from + k)) → EachAt (Ready values r) from (own_cells literal starts net)
+side_ready values r from literal starts net h = each_side (Ready values r) from literal starts net h (λ k less. tt)
 
 pub ready : (pair : Pair) (state inputs values : List Bool) → IsSoundPair pair → IsFrame pair state inputs → ((k : ℕ) → k < length pair.left.inputs → bit values (1 + k) ≡ bit inputs k)
     → ((k : ℕ) → k < length pair.left.latches → bit values (left_from pair + k) ≡ bit state k) → ((k : ℕ) → k < length pair.right.latches → bit values (right_from pair + k) ≡ bit state (length pair.left.latches + k))
     → EachAt (Ready values (row pair state inputs)) 0 (cells pair)
 ready pair state inputs values is on i l r =
     each_cell (Ready values (row pair state inputs)) pair is tt (λ k lt. i k lt ∙ sym (input_bit pair state inputs k is on lt))
-    (side_ready values (row pair state inputs) (left_from pair) (left_literal pair) pair.left (λ k lt. l k lt ∙ sym (left_bit pair state inputs k is on lt)))
-    (side_ready values (row pair state inputs) (right_from pair) (right_literal pair) pair.right (λ k lt. r k lt ∙ sym (right_bit pair state inputs k is on lt)))
+    (side_ready values (row pair state inputs) (left_from pair) (left_literal pair) [] pair.left (λ k lt. l k lt ∙ sym (left_bit pair state inputs k is on lt)))
+    (side_ready values (row pair state inputs) (right_from pair) (right_literal pair) (partners pair) pair.right (λ k lt. r k lt ∙ sym (right_bit pair state inputs k is on lt)))
 
 -- after the first p places
 pub record IsWritten (pair : Pair) (state inputs : List Bool) (p : ℕ) (values : List Bool) : Type 0 where
@@ -117,7 +113,7 @@ begun pair state inputs values size h = record {
 ready_set : (values r : List Bool) (p k : ℕ) (b : Bool) (c : Cell) → k ≢ p → Ready values r k c → Ready (set values p b) r k c
 ready_set values r p k b Low ne h = tt
 ready_set values r p k b Given ne h = get_or-set_other values p k b false ne ∙ h
-ready_set values r p k b (Held reset next) ne h = get_or-set_other values p k b false ne ∙ h
+ready_set values r p k b (Held start next) ne h = get_or-set_other values p k b false ne ∙ h
 ready_set values r p k b (Product x y) ne h = tt
 
 pub written_set : (pair : Pair) (state inputs values : List Bool) (p : ℕ) (b : Bool) → p < places_of pair → IsWritten pair state inputs p values → b ≡ bit (row pair state inputs) p → IsWritten pair state inputs (p + 1) (set values p b)
@@ -133,13 +129,13 @@ written_set pair state inputs values p b lt h e = record {
 abbrev pub IsFreeCell : Cell → Type 0
 IsFreeCell Low = ⊥
 IsFreeCell Given = Unit {0}
-IsFreeCell (Held reset next) = Unit {0}
+IsFreeCell (Held start next) = Unit {0}
 IsFreeCell (Product a b) = ⊥
 
 ready_bit : (values r : List Bool) (p : ℕ) (c : Cell) → IsFreeCell c → Ready values r p c → bit values p ≡ bit r p
 ready_bit values r p Low f h = absurd f
 ready_bit values r p Given f h = h
-ready_bit values r p (Held reset next) f h = h
+ready_bit values r p (Held start next) f h = h
 ready_bit values r p (Product a b) f h = absurd f
 
 pub written_free : (pair : Pair) (state inputs values : List Bool) (p : ℕ) → p < places_of pair → IsWritten pair state inputs p values → IsFreeCell (get_or (cells pair) p Low) → IsWritten pair state inputs (p + 1) values

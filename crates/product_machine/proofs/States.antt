@@ -1,7 +1,8 @@
 -- The lists of next literals and of outputs: how long they are, what stands in them, and what the next state is by them.
-use Rattle.std.proofs.Common.{◌≡◌, ◌∙◌, ◌<◌, ◌≤◌, ◌/◌, ℕ, List, [], ◌∷◌, ◌++◌, length, map, get_or, refl, ap, ap₂, sym, subst, arith, Bool, false, length-append}
+use Rattle.std.proofs.Common.{◌≡◌, ◌≢◌, ◌∙◌, ◌<◌, ◌≤◌, ◌+◌, ◌/◌, ⊎_elim, ℕ, List, set, [], ◌∷◌, ◌++◌, length, map, get_or, refl, ap, ap₂, sym, subst, arith, Bool, false, length-append}
 use Rattle.std.specs.List.{All}
-use Rattle.std.proofs.lemmas.List.{length-map, get_or-map, ext_get_or}
+use Rattle.std.proofs.lemmas.Bool.{cases_eq}
+use Rattle.std.proofs.lemmas.List.{length-map, get_or-map, get_or_default, get_or-set_same, get_or-set_other, ext_get_or}
 use Rattle.std.proofs.lemmas.List.Elements.{All-append}
 use Rattle.std.proofs.lemmas.List.FromFn.{length-map-range_with_len, get_or-map-range_with_len}
 use Rattle.circ_model.specs.declared.netlist.Latch.{Latch}
@@ -10,7 +11,7 @@ use Rattle.circ_model.proofs.Rows.{length_places, left_literal_is, right_literal
 use Rattle.product_machine.specs.Eval.{IsFrame}
 use Rattle.product_machine.specs.States.{nexts, output_pair, output_pairs}
 use Rattle.product_machine.proofs.OneRow.{one_frame, one_path}
-use Rattle.product_machine.proofs.Sides.{no_latch}
+use Rattle.product_machine.specs.Cells.{no_latch}
 use Rattle.product_machine.proofs.Size.{few_places}
 use Rattle.product_machine.proofs.Tabling.{map_same}
 
@@ -47,6 +48,18 @@ nexts_within pair is = All-append (λ (n : ℕ). n / 2 < places_of pair) (map (�
 
 pub next_within_places : (pair : Pair) (items : List ℕ) (k d : ℕ) → IsSoundPair pair → items ≡ nexts pair → k < latches_of pair → get_or items k d / 2 < places_of pair
 next_within_places pair items k d is e lt = subst (λ (l : List ℕ). get_or l k d / 2 < places_of pair) (sym e) (nexts_within pair is k d (omega (arith, length_nexts pair)))
+
+-- a literal that was read
+pub next_read : (pair : Pair) (items : List ℕ) (k lit : ℕ) → items ≡ nexts pair → k < latches_of pair → lit ≡ get_or items k lit → lit ≡ get_or (nexts pair) k 0
+next_read pair items k lit e lt is = is ∙ ap (λ (l : List ℕ). get_or l k lit) e ∙ get_or_default (nexts pair) k lit 0 (omega (arith, length_nexts pair))
+
+-- one more bit of the state
+pub written_more : (pair : Pair) (values state : List Bool) (i : ℕ) (b : Bool) → i < length state → b ≡ value_in values (get_or (nexts pair) i 0) → ((k : ℕ) → k < i → bit state k ≡ value_in values (get_or (nexts pair) k 0))
+    → (k : ℕ) → k < i + 1 → bit (set state i b) k ≡ value_in values (get_or (nexts pair) k 0)
+written_more pair values state i b lt e done k less = ⊎_elim
+    (λ (s : k ≡ i). rw s (get_or-set_same state i b false lt ∙ e))
+    (λ (n : k ≢ i). get_or-set_other state i k b false n ∙ done k (omega arith))
+    (cases_eq k i)
 
 -- the bits of the state so far
 pub all_written : (pair : Pair) (values state : List Bool) (i : ℕ) → latches_of pair ≤ i → length state ≡ latches_of pair → ((k : ℕ) → k < i → bit state k ≡ value_in values (get_or (nexts pair) k 0)) → state ≡ map (value_in values) (nexts pair)

@@ -9,11 +9,10 @@ use Rattle.circ_model.specs.declared.netlist.Gate.{Gate}
 use Rattle.product_machine.specs.declared.cell.Cell.{Cell}
 use Rattle.product_machine.specs.declared.cell.Cell.TheVariants.{Held, Product}
 use Rattle.circ_model.specs.Netlist.{Netlist, IsSound, AllDefined, IsDefined, variables, no_gate}
-use Rattle.circ_model.specs.Meaning.{Pair, is_odd, literal as literal_of, IsSoundPair, literal_by, left_place, right_place, left_literal, right_literal, outputs_of}
-use Rattle.product_machine.specs.Cells.{own_cells, latch_cell, gate_cell}
+use Rattle.circ_model.specs.Meaning.{Pair, is_odd, literal as literal_of, IsSoundPair, literal_by, left_place, right_place, left_literal, right_literal, outputs_of, own_resets}
+use Rattle.product_machine.specs.Cells.{own_cells, partners, no_latch, start_at, latch_cell, gate_cell}
 use Rattle.circ_model.proofs.Order.{gate_variable}
 use Rattle.circ_model.proofs.Rows.{length_leaves}
-use Rattle.product_machine.proofs.Sides.{no_latch}
 use Rattle.circ_model.proofs.Rows.{left_at, right_at}
 use Rattle.product_machine.specs.Tables.{IsTable, AreTables, outputs_by, moved, says}
 use Rattle.product_machine.specs.States.{output_pair, output_pairs}
@@ -60,37 +59,41 @@ same_literal net f h lit same (q, within, is) =
     let e : get_or (variables net) q 0 ≡ lit / 2 = get_or_default (variables net) q 0 (lit / 2) within ∙ is in
     ap (λ (p : ℕ). literal_of p (is_odd lit)) (subst (λ (v : ℕ). f v ≡ h v) e (same q within))
 
-same_cells : (net : Netlist) (f h : ℕ → ℕ) → AllDefined net → AgreeOn net f h → own_cells (literal_by f) net ≡ own_cells (literal_by h) net
-same_cells net f h defined same =
+same_cells : (net : Netlist) (f h : ℕ → ℕ) (starts : List ℕ) → AllDefined net → AgreeOn net f h → own_cells (literal_by f) starts net ≡ own_cells (literal_by h) starts net
+same_cells net f h starts defined same =
     ap₂ (λ (xs ys : List Cell). xs ++ ys)
-    (map_same (latch_cell (literal_by f)) (latch_cell (literal_by h)) net.latches no_latch (λ k lt. ap (Held (get_or net.latches k no_latch).reset) (same_literal net f h (get_or net.latches k no_latch).next same (defined.latches k no_latch lt))))
+    (map_same (latch_cell (literal_by f) starts net.latches) (latch_cell (literal_by h) starts net.latches) (range_with_len 0 (length net.latches)) 0 (λ i within.
+    let lt : i < length net.latches = omega (arith, length-range_with_len 0 (length net.latches)) in
+    let e : i ≡ get_or (range_with_len 0 (length net.latches)) i 0 = sym (get_or-range_with_len 0 (length net.latches) i 0 lt ∙ omega arith) in
+    subst (λ (k : ℕ). latch_cell (literal_by f) starts net.latches k ≡ latch_cell (literal_by h) starts net.latches k) e
+    (ap (Held (start_at starts (own_resets net) i)) (same_literal net f h (get_or net.latches i no_latch).next same (defined.latches i no_latch lt)))))
     (map_same (gate_cell (literal_by f)) (gate_cell (literal_by h)) net.gates no_gate (λ k lt. let d = defined.gates k no_gate lt in ap₂ Product (same_literal net f h (get_or net.gates k no_gate).left same d.0) (same_literal net f h (get_or net.gates k no_gate).right same d.1)))
 
 same_nexts : (net : Netlist) (f h : ℕ → ℕ) → AllDefined net → AgreeOn net f h → map (λ (l : Latch). literal_by f l.next) net.latches ≡ map (λ (l : Latch). literal_by h l.next) net.latches
 same_nexts net f h defined same = map_same (λ (l : Latch). literal_by f l.next) (λ (l : Latch). literal_by h l.next) net.latches no_latch (λ k lt. same_literal net f h (get_or net.latches k no_latch).next same (defined.latches k no_latch lt))
 
-left_agrees : (pair : Pair) (left right : List ℕ) → IsSoundPair pair → AreTables pair left right → AgreeOn pair.left (says left) (left_place pair)
+left_agrees : (pair : Pair) (left right : List ℕ) → IsSoundPair pair → AreTables pair.left pair.right left right → AgreeOn pair.left (says left) (left_place pair)
 left_agrees pair left right is t q lt =
     t.is_left.at q lt lt ∙ ⊎_elim (λ (h : q < 1 + length pair.left.inputs). sym (place_low pair.left 0 q h)) (λ (h : 1 + length pair.left.inputs ≤ q). sym (place_high pair.left 0 q h) ∙ (let z : q + 0 ≡ q = omega arith in z)) (cases_lt q (1 + length pair.left.inputs))
     ∙ sym (left_at pair q is lt)
 
-right_agrees : (pair : Pair) (left right : List ℕ) → IsSoundPair pair → AreTables pair left right → AgreeOn pair.right (says right) (right_place pair)
+right_agrees : (pair : Pair) (left right : List ℕ) → IsSoundPair pair → AreTables pair.left pair.right left right → AgreeOn pair.right (says right) (right_place pair)
 right_agrees pair left right is t q lt = t.is_right.at q lt lt ∙ sym (right_at pair q is lt)
 
-pub left_cells : (pair : Pair) (left right : List ℕ) → IsSoundPair pair → AreTables pair left right → own_cells (literal_by (says left)) pair.left ≡ own_cells (left_literal pair) pair.left
-left_cells pair left right is t = same_cells pair.left (says left) (left_place pair) is.left.all_defined (left_agrees pair left right is t)
+pub left_cells : (pair : Pair) (left right : List ℕ) → IsSoundPair pair → AreTables pair.left pair.right left right → own_cells (literal_by (says left)) [] pair.left ≡ own_cells (left_literal pair) [] pair.left
+left_cells pair left right is t = same_cells pair.left (says left) (left_place pair) [] is.left.all_defined (left_agrees pair left right is t)
 
-pub right_cells : (pair : Pair) (left right : List ℕ) → IsSoundPair pair → AreTables pair left right → own_cells (literal_by (says right)) pair.right ≡ own_cells (right_literal pair) pair.right
-right_cells pair left right is t = same_cells pair.right (says right) (right_place pair) is.right.all_defined (right_agrees pair left right is t)
+pub right_cells : (pair : Pair) (left right : List ℕ) → IsSoundPair pair → AreTables pair.left pair.right left right → own_cells (literal_by (says right)) (partners pair) pair.right ≡ own_cells (right_literal pair) (partners pair) pair.right
+right_cells pair left right is t = same_cells pair.right (says right) (right_place pair) (partners pair) is.right.all_defined (right_agrees pair left right is t)
 
-pub left_nexts : (pair : Pair) (left right : List ℕ) → IsSoundPair pair → AreTables pair left right → map (λ (l : Latch). literal_by (says left) l.next) pair.left.latches ≡ map (λ (l : Latch). left_literal pair l.next) pair.left.latches
+pub left_nexts : (pair : Pair) (left right : List ℕ) → IsSoundPair pair → AreTables pair.left pair.right left right → map (λ (l : Latch). literal_by (says left) l.next) pair.left.latches ≡ map (λ (l : Latch). left_literal pair l.next) pair.left.latches
 left_nexts pair left right is t = same_nexts pair.left (says left) (left_place pair) is.left.all_defined (left_agrees pair left right is t)
 
-pub right_nexts : (pair : Pair) (left right : List ℕ) → IsSoundPair pair → AreTables pair left right → map (λ (l : Latch). literal_by (says right) l.next) pair.right.latches ≡ map (λ (l : Latch). right_literal pair l.next) pair.right.latches
+pub right_nexts : (pair : Pair) (left right : List ℕ) → IsSoundPair pair → AreTables pair.left pair.right left right → map (λ (l : Latch). literal_by (says right) l.next) pair.right.latches ≡ map (λ (l : Latch). right_literal pair l.next) pair.right.latches
 right_nexts pair left right is t = same_nexts pair.right (says right) (right_place pair) is.right.all_defined (right_agrees pair left right is t)
 
 -- the outputs by their tables
-pub outputs_are : (pair : Pair) (left right : List ℕ) → IsSoundPair pair → AreTables pair left right → outputs_by (says left) (says right) pair.left.outputs pair.right.outputs ≡ output_pairs pair
+pub outputs_are : (pair : Pair) (left right : List ℕ) → IsSoundPair pair → AreTables pair.left pair.right left right → outputs_by (says left) (says right) pair.left.outputs pair.right.outputs ≡ output_pairs pair
 outputs_are pair left right is t = map_same by_tables (output_pair pair) (range_with_len 0 (outputs_of pair)) 0 (λ k lt.
     let short : k < outputs_of pair = omega (arith, length-range_with_len 0 (outputs_of pair)) in
     let e : k ≡ get_or (range_with_len 0 (outputs_of pair)) k 0 = sym (get_or-range_with_len 0 (outputs_of pair) k 0 short ∙ omega arith) in

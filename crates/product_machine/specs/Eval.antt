@@ -13,5 +13,5 @@ pub record IsFrame (pair : Pair) (state inputs : List Bool) : Type 0 where
 abbrev pub Ready : List Bool → List Bool → ℕ → Cell → Type 0
 Ready values r p Low = Unit {0}
 Ready values r p Given = bit values p ≡ bit r p
-Ready values r p (Held reset next) = bit values p ≡ bit r p
+Ready values r p (Held start next) = bit values p ≡ bit r p
 Ready values r p (Product a b) = Unit {0}

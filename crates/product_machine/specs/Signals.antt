@@ -18,5 +18,5 @@ cell_at pair p = slice_index_or (cells pair) p Low
 abbrev pub IsGate : Cell → Type 0
 IsGate Low = ⊥
 IsGate Given = ⊥
-IsGate (Held reset next) = ⊥
+IsGate (Held start next) = ⊥
 IsGate (Product a b) = Unit {0}

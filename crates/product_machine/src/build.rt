@@ -3,16 +3,17 @@
 ghost use Rattle.std.specs.Prelude.{◌≡◌, ◌<◌, ◌≤◌, ◌+◌, ◌-◌, ◌*◌, ◌/◌, ◌%◌, ◌++◌, ℕ, List, Bool, [], length, map, IfOk, OnOk, All, slice_index};
 ghost use Rattle.circ_model.specs.Netlist.{IsSound, variables};
 ghost use Rattle.std.specs.Prelude.{◌∷◌};
-ghost use Rattle.circ_model.specs.Meaning.{literal_by, IsSoundPair};
+ghost use Rattle.std.specs.Prelude.{if◌then◌else◌, true, false, slice_get};
+ghost use Rattle.circ_model.specs.Meaning.{free_latches, is_free, literal_by, IsSoundPair};
 ghost use Rattle.circ_model.specs.Netlist.{own};
 ghost use Rattle.product_machine.specs.declared.cell.Cell.TheVariants.{Low, Given};
-ghost use Rattle.product_machine.specs.Cells.{own_cells, latch_cell, gate_cell, cells};
+ghost use Rattle.product_machine.specs.Cells.{own_cells, latch_cells, gate_cell, start_by, partners, cells};
 ghost use Rattle.product_machine.specs.Tables.{IsTable, AreTables, outputs_by, moved, says};
 ghost use Rattle.product_machine.specs.States.{nexts, output_pairs};
 
-use crate::Cell;
+use crate::{Cell, Start};
 use aig_graph::Netlist;
-use circ_model::{Gate, Latch, Lit};
+use circ_model::{Gate, Latch, Lit, Reset};
 use std::alloc::{AllocError, Global};
 
 // The variable at a place of a netlist.
@@ -72,16 +73,108 @@ fn translated(table: &[u32], lit: Lit) -> Lit
     Lit::of(table[lit.var() as usize], lit.is_complement())
 }
 
-// The cells of latches.
-fn push_latches(cells: &mut Vec<Cell>, latches: &[Latch], table: &[u32]) -> Result<(), AllocError>
+// What a latch with this reset starts with, where so many free ones stand before it.
+fn start_of(reset: Reset, partners: &[u32], used: usize) -> Start
+    ensures { result ≡ start_by reset (slice_get partners.now used) }
+{
+    match reset {
+        Reset::Zero => Start::Zero,
+        Reset::One => Start::One,
+        Reset::Free => {
+            if used < partners.len() {
+                Start::Like(partners[used])
+            } else {
+                Start::Free
+            }
+        }
+    }
+}
+
+// How many free latches it is.
+fn free_number(reset: Reset) -> usize
+    ensures { result ≡ (if is_free reset then 1 else 0) }
+{
+    match reset {
+        Reset::Zero => 0,
+        Reset::One => 0,
+        Reset::Free => 1,
+    }
+}
+
+// The cells of latches. The partners are the places as which the free ones start, in their order.
+fn push_latches(
+    cells: &mut Vec<Cell>,
+    latches: &[Latch],
+    partners: &[u32],
+    table: &[u32],
+) -> Result<(), AllocError>
     requires within { All (λ l. l.next / 2 < length table.now) latches.now }
     requires room { All (λ p. p < 2147483648) table.now }
-    ensures { OnOk result (cells.new.items ≡ cells.old.items ++ map (latch_cell (literal_by (says table.now))) latches.now) }
+    ensures { OnOk result (cells.new.items ≡ cells.old.items ++ latch_cells (literal_by (says table.now)) partners.now latches.now) }
 {
-    for latch in latches {
-        cells.push(Cell::Held(latch.reset, translated(table, latch.next)))?;
+    let mut used = 0;
+    for k in 0..latches.len() {
+        let latch = latches[k];
+        let start = start_of(latch.reset, partners, used);
+        used += free_number(latch.reset);
+        cells.push(Cell::Held(start, translated(table, latch.next)))?;
     }
     Ok(())
+}
+
+// The places of a netlist's free latches, in their order, where its latches stand from a place on.
+fn free_places(alloc: Global, net: &Netlist, from: u32) -> Result<Vec<u32>, AllocError>
+    requires { from + length net.now.latches < 2147483648 }
+    ensures { IfOk result (λ v. v.items ≡ map (λ k. from + k) (free_latches net.now)) }
+{
+    let mut places = Vec::new(alloc);
+    let latches = net.latches();
+    for k in 0..latches.len() {
+        push_free(&mut places, latches[k].reset, from + k as u32)?;
+    }
+    Ok(places)
+}
+
+// The place of a latch, where it is free.
+fn push_free(places: &mut Vec<u32>, reset: Reset, place: u32) -> Result<(), AllocError>
+    ensures { OnOk result (places.new.items ≡ places.old.items ++ (if is_free reset then place ∷ [] else [])) }
+{
+    match reset {
+        Reset::Zero => {}
+        Reset::One => {}
+        Reset::Free => places.push(place)?,
+    }
+    Ok(())
+}
+
+// The partners of the right netlist's free latches.
+fn partners_of(
+    alloc: Global,
+    left: &Netlist,
+    right: &Netlist,
+    tied: bool,
+) -> Result<Vec<u32>, AllocError>
+    requires { IsSound left.now }
+    ensures { IfOk result (λ v. v.items ≡ partners (record { left = left.now; right = right.now; tied = tied })) }
+{
+    if tied {
+        let places = free_places(alloc, left, 1 + left.inputs().len() as u32)?;
+        return Ok(places);
+    }
+    Ok(Vec::new(alloc))
+}
+
+// The number of free latches.
+pub(crate) fn free_count(net: &Netlist) -> u32
+    requires { IsSound net.now }
+    ensures { result ≡ length (free_latches net.now) }
+{
+    let mut count = 0;
+    let latches = net.latches();
+    for k in 0..latches.len() {
+        count += free_number(latches[k].reset);
+    }
+    count as u32
 }
 
 // The cells of gates.
@@ -98,13 +191,18 @@ fn push_gates(cells: &mut Vec<Cell>, gates: &[Gate], table: &[u32]) -> Result<()
 }
 
 // A side's latches and gates.
-fn push_side(cells: &mut Vec<Cell>, net: &Netlist, table: &[u32]) -> Result<(), AllocError>
+fn push_side(
+    cells: &mut Vec<Cell>,
+    net: &Netlist,
+    partners: &[u32],
+    table: &[u32],
+) -> Result<(), AllocError>
     requires sound { IsSound net.now }
     requires size { length table.now ≡ net.now.max_var + 1 }
     requires room { All (λ p. p < 2147483648) table.now }
-    ensures { OnOk result (cells.new.items ≡ cells.old.items ++ own_cells (literal_by (says table.now)) net.now) }
+    ensures { OnOk result (cells.new.items ≡ cells.old.items ++ own_cells (literal_by (says table.now)) partners.now net.now) }
 {
-    push_latches(cells, net.latches(), table)?;
+    push_latches(cells, net.latches(), partners, table)?;
     push_gates(cells, net.gates(), table)?;
     Ok(())
 }
@@ -193,8 +291,8 @@ pub(crate) fn tables_of(
     left: &Netlist,
     right: &Netlist,
 ) -> Result<Tables, AllocError>
-    requires { IsSoundPair (record { left = left.now; right = right.now }) }
-    ensures { IfOk result (λ t. AreTables (record { left = left.now; right = right.now }) t.left.items t.right.items) }
+    requires { IsSoundPair (record { left = left.now; right = right.now; tied = false }) }
+    ensures { IfOk result (λ t. AreTables left.now right.now t.left.items t.right.items) }
 {
     let lefts = variable_count(left);
     let rights = variable_count(right);
@@ -205,21 +303,28 @@ pub(crate) fn tables_of(
     })
 }
 
-// The cells of a pair.
+// The cells of a pair, tied or not.
 pub(crate) fn cells_of(
     alloc: Global,
     left: &Netlist,
     right: &Netlist,
+    tied: bool,
     tables: &Tables,
 ) -> Result<Vec<Cell>, AllocError>
-    requires sound { IsSoundPair (record { left = left.now; right = right.now }) }
-    requires tables { AreTables (record { left = left.now; right = right.now }) tables.now.left.items tables.now.right.items }
-    ensures { IfOk result (λ v. v.items ≡ cells (record { left = left.now; right = right.now })) }
+    requires sound { IsSoundPair (record { left = left.now; right = right.now; tied = tied }) }
+    requires tables { AreTables left.now right.now tables.now.left.items tables.now.right.items }
+    ensures { IfOk result (λ v. v.items ≡ cells (record { left = left.now; right = right.now; tied = tied })) }
 {
+    let partners = partners_of(alloc, left, right, tied)?;
     let mut table = Vec::new(alloc);
     push_shared(&mut table, left.inputs())?;
-    push_side(&mut table, left, tables.left.as_slice())?;
-    push_side(&mut table, right, tables.right.as_slice())?;
+    push_side(&mut table, left, &[], tables.left.as_slice())?;
+    push_side(
+        &mut table,
+        right,
+        partners.as_slice(),
+        tables.right.as_slice(),
+    )?;
     Ok(table)
 }
 
@@ -230,9 +335,9 @@ pub(crate) fn nexts_of(
     right: &Netlist,
     tables: &Tables,
 ) -> Result<Vec<Lit>, AllocError>
-    requires sound { IsSoundPair (record { left = left.now; right = right.now }) }
-    requires tables { AreTables (record { left = left.now; right = right.now }) tables.now.left.items tables.now.right.items }
-    ensures { IfOk result (λ v. v.items ≡ nexts (record { left = left.now; right = right.now })) }
+    requires sound { IsSoundPair (record { left = left.now; right = right.now; tied = false }) }
+    requires tables { AreTables left.now right.now tables.now.left.items tables.now.right.items }
+    ensures { IfOk result (λ v. v.items ≡ nexts (record { left = left.now; right = right.now; tied = false })) }
 {
     let mut nexts = Vec::new(alloc);
     push_nexts(&mut nexts, left.latches(), tables.left.as_slice())?;
@@ -247,9 +352,9 @@ pub(crate) fn outputs_of(
     right: &Netlist,
     tables: &Tables,
 ) -> Result<Vec<(Lit, Lit)>, AllocError>
-    requires sound { IsSoundPair (record { left = left.now; right = right.now }) }
-    requires tables { AreTables (record { left = left.now; right = right.now }) tables.now.left.items tables.now.right.items }
-    ensures { IfOk result (λ v. v.items ≡ output_pairs (record { left = left.now; right = right.now })) }
+    requires sound { IsSoundPair (record { left = left.now; right = right.now; tied = false }) }
+    requires tables { AreTables left.now right.now tables.now.left.items tables.now.right.items }
+    ensures { IfOk result (λ v. v.items ≡ output_pairs (record { left = left.now; right = right.now; tied = false })) }
 {
     let mut outputs = Vec::new(alloc);
     push_outputs(

@@ -12,7 +12,7 @@ mod same;
 mod signals;
 mod walk;
 
-pub use cell::Cell;
+pub use cell::{Cell, Start};
 pub use laws::{cells_of_pairs, paths_of_values, values_of_cells};
 pub use path::Path;
 pub use product::{PairFault, Product};

@@ -4,25 +4,25 @@ ghost use Rattle.std.specs.Prelude.{◌≡◌, ◌<◌, ◌≤◌, ◌+◌, ◌*
 ghost use Rattle.circ_model.specs.Meaning.{bit};
 ghost use Rattle.circ_model.specs.Meaning.{IsSoundPair, row, places_of, outputs_of, latches_of, resets, next_state, value_in};
 ghost use Rattle.circ_model.specs.declared.netlist.Reset.TheVariants.{Free};
-ghost use Rattle.product_machine.specs.States.{nexts, output_pair};
-ghost use Rattle.std.specs.Prelude.{map, slice_index, slice_index_or};
-ghost use Rattle.product_machine.specs.Cells.{EachAt};
+ghost use Rattle.product_machine.specs.States.{nexts, output_pair, ArePartners, IsTiedLatch};
+ghost use Rattle.std.specs.Prelude.{map, slice_index, slice_index_or, true, IfSome, IfNone};
+ghost use Rattle.product_machine.specs.Cells.{EachAt, like_in};
 ghost use Rattle.product_machine.specs.Eval.{IsFrame, Ready};
 ghost use Rattle.product_machine.specs.Cells.{cells};
 ghost use Rattle.product_machine.specs.Faults.{Pairs};
 ghost use Rattle.product_machine.specs.Tables.{Places};
 ghost use Rattle.circ_model.specs.Netlist.{own};
 
-use crate::Cell;
-use crate::build::{Tables, cells_of, nexts_of, outputs_of, tables_of};
+use crate::build::{Tables, cells_of, free_count, nexts_of, outputs_of, own_count, tables_of};
 use crate::rows::{both, copy_bits, value_of};
+use crate::{Cell, Start};
 use aig_graph::Netlist;
 use bit_rows::BitRow;
 use circ_model::{Lit, Reset};
 use std::alloc::{AllocError, Global};
 use std::marker::Model;
 
-/// Two netlists on shared inputs, seen as the pair of them.
+/// Two netlists on shared inputs, seen as the pair of them, tied or not.
 #[derive(Drop)]
 pub struct Product {
     left: Netlist,
@@ -31,6 +31,7 @@ pub struct Product {
     next_literals: Vec<Lit>,
     output_literals: Vec<(Lit, Lit)>,
     tables: Tables,
+    tied: bool,
 }
 
 impl Model for Product {
@@ -42,13 +43,13 @@ impl Model for Product {
 
     ghost Value = { Pair };
 
-    ghost view = { λ p. record { left = p.left; right = p.right } };
+    ghost view = { λ p. record { left = p.left; right = p.right; tied = p.tied } };
 
-    ghost invariant = { λ p. IsSoundPair (record { left = p.left; right = p.right })
-        × (p.table.items ≡ cells (record { left = p.left; right = p.right }))
-        × (p.next_literals.items ≡ nexts (record { left = p.left; right = p.right }))
-        × (p.output_literals.items ≡ output_pairs (record { left = p.left; right = p.right }))
-        × AreTables (record { left = p.left; right = p.right }) p.tables.left.items p.tables.right.items };
+    ghost invariant = { λ p. IsSoundPair (record { left = p.left; right = p.right; tied = p.tied })
+        × (p.table.items ≡ cells (record { left = p.left; right = p.right; tied = p.tied }))
+        × (p.next_literals.items ≡ nexts (record { left = p.left; right = p.right; tied = p.tied }))
+        × (p.output_literals.items ≡ output_pairs (record { left = p.left; right = p.right; tied = p.tied }))
+        × AreTables p.left p.right p.tables.left.items p.tables.right.items };
 }
 
 /// Why two netlists are no pair.
@@ -56,6 +57,8 @@ impl Model for Product {
 pub enum PairFault {
     Inputs(u32, u32),
     Outputs(u32, u32),
+    /// The numbers of free latches, where these were to be tied.
+    Free(u32, u32),
     Memory,
 }
 
@@ -70,9 +73,28 @@ impl From<AllocError> for PairFault {
 }
 
 impl Product {
-    /// The pair of two netlists, where their counts agree.
+    /// The pair of two netlists, where their counts agree. Each free latch starts with a bit of its own.
     pub fn new(alloc: Global, left: Netlist, right: Netlist) -> Result<Product, PairFault>
-        ensures { Pairs left right result }
+        ensures { Pairs false left right result }
+    {
+        Product::paired(alloc, left, right, false)
+    }
+
+    /// The pair of two netlists, where their counts agree, those of free latches too. The j-th free latch of the right
+    /// netlist starts as the j-th of the left.
+    pub fn tied(alloc: Global, left: Netlist, right: Netlist) -> Result<Product, PairFault>
+        ensures { Pairs true left right result }
+    {
+        Product::paired(alloc, left, right, true)
+    }
+
+    fn paired(
+        alloc: Global,
+        left: Netlist,
+        right: Netlist,
+        tied: bool,
+    ) -> Result<Product, PairFault>
+        ensures { Pairs tied left right result }
     {
         let inputs = (left.inputs().len() as u32, right.inputs().len() as u32);
         if inputs.0 != inputs.1 {
@@ -82,14 +104,19 @@ impl Product {
         if outputs.0 != outputs.1 {
             return Err(PairFault::Outputs(outputs.0, outputs.1));
         }
+        let free = (free_count(&left), free_count(&right));
+        if tied && free.0 != free.1 {
+            return Err(PairFault::Free(free.0, free.1));
+        }
         let tables = tables_of(alloc, &left, &right)?;
         Ok(Product {
-            table: cells_of(alloc, &left, &right, &tables)?,
+            table: cells_of(alloc, &left, &right, tied, &tables)?,
             next_literals: nexts_of(alloc, &left, &right, &tables)?,
             output_literals: outputs_of(alloc, &left, &right, &tables)?,
             tables,
             left,
             right,
+            tied,
         })
     }
 
@@ -187,6 +214,32 @@ impl Product {
         }
     }
 
+    /// Whether the free latches of both netlists start equal.
+    pub fn is_tied(&self) -> bool
+        ensures { result ≡ self.now.tied }
+    {
+        self.tied
+    }
+
+    /// The left partner of latch i of the state, which starts equal; none where latch i isn't a free latch of the right
+    /// netlist of a tied pair.
+    pub fn tie(&self, i: u32) -> Option<u32>
+        requires { i < latches_of self.now }
+        ensures some { IfSome result (ArePartners self.now i) }
+        ensures none { IfNone result (IsTiedLatch self.now i → ⊥) }
+    {
+        let cells = self.cells();
+        let lefts = self.left().latches().len() as u32;
+        if i < lefts {
+            return None;
+        }
+        let from = 1 + self.inputs();
+        match place_like(cells[(from + own_count(self.left()) + (i - lefts)) as usize]) {
+            None => None,
+            Some(place) => Some(place - from),
+        }
+    }
+
     /// The next literal of latch i of the state, as a literal of the pair.
     pub fn next(&self, i: u32) -> Lit
         requires { i < latches_of self.now }
@@ -234,6 +287,16 @@ impl Product {
         ensures { result.now ≡ self.entry.now.right }
     {
         &self.right
+    }
+}
+
+// The place as which a latch starts.
+fn place_like(cell: Cell) -> Option<u32>
+    ensures { result ≡ like_in cell }
+{
+    match cell {
+        Cell::Held(Start::Like(place), _) => Some(place),
+        _ => None,
     }
 }
 

@@ -6,11 +6,13 @@ use aig_graph::Netlist;
 use circ_model::{Gate, Latch, Lit, Reset};
 
 impl Product {
-    /// Whether both netlists are equal, section by section.
+    /// Whether both netlists are equal, section by section, and both pairs are tied or neither.
     pub fn same(&self, other: &Product) -> bool
         ensures { IsTrue result ↔ (self.now ≡ other.now) }
     {
-        same_netlist(self.left(), other.left()) && same_netlist(self.right(), other.right())
+        self.is_tied() == other.is_tied()
+            && same_netlist(self.left(), other.left())
+            && same_netlist(self.right(), other.right())
     }
 }
 

@@ -2,6 +2,7 @@
 ghost use Rattle.std.specs.Prelude.{◌≡◌, ◌<◌, ◌≤◌, ◌+◌, ◌*◌, ◌/◌, ℕ, List, Bool, true, false, IsTrue, IfOk, ◌↔◌, length, replicate, slice_index_or};
 ghost use Rattle.circ_model.specs.declared.netlist.Reset.TheVariants.{Zero, One, Free};
 ghost use Rattle.circ_model.specs.Meaning.{bit, latches_of, places_of, resets, IsPath, IsRun, MayStartAt, next_state, row, row_at};
+ghost use Rattle.product_machine.specs.States.{MayStart, StartsLike};
 ghost use Rattle.product_machine.specs.Walk.{FitsPair};
 
 use crate::path::Path;
@@ -60,17 +61,38 @@ impl Product {
         true
     }
 
-    /// Whether a path starts as the resets say.
+    /// Whether a path starts as the resets say, and in a tied pair each free latch as its partner.
     pub fn is_run(&self, path: &Path) -> bool
         requires { IsPath self.now path.now }
         ensures { IsTrue result ↔ IsRun self.now path.now }
     {
         for i in 0..self.latches() {
-            if !may_start_at(self.reset(i), path.start.get(i)) {
+            if !self.may_start(path, i) {
                 return false;
             }
         }
         true
+    }
+
+    // Whether latch i starts as its reset and its partner say.
+    fn may_start(&self, path: &Path, i: u32) -> bool
+        requires path { IsPath self.now path.now }
+        requires latch { i < latches_of self.now }
+        ensures { IsTrue result ↔ MayStart self.now path.now i }
+    {
+        may_start_at(self.reset(i), path.start.get(i)) && self.starts_tied(path, i)
+    }
+
+    // Whether latch i starts as its partner, where it has one.
+    fn starts_tied(&self, path: &Path, i: u32) -> bool
+        requires path { IsPath self.now path.now }
+        requires latch { i < latches_of self.now }
+        ensures { IsTrue result ↔ StartsLike self.now path.now i }
+    {
+        match self.tie(i) {
+            None => true,
+            Some(partner) => path.start.get(i) == path.start.get(partner),
+        }
     }
 
     /// Writes the values of frame t of a path, counted from 0, by a walk through the frames before it.

@@ -1,4 +1,5 @@
 pub mod Lanes
 pub mod Frames
+pub mod Counting
 pub mod Runs
 pub mod Words

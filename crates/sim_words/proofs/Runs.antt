@@ -1,42 +1,22 @@
 -- Lanes as runs: where they start, and how a step makes a run one frame longer.
-use Rattle.std.proofs.Common.{◌≡◌, ◌∙◌, ◌<◌, ◌≤◌, ◌+◌, ◌-◌, ℕ, zero, suc, List, [], ◌∷◌, Bool, true, false, Option, Some, None, length, map, take, get_or, refl, ap, ap₂, sym, subst, arith, if◌then◌else◌}
-use Rattle.std.specs.Prelude.{count_by}
+use Rattle.std.proofs.Common.{◌≡◌, ◌∙◌, ◌<◌, ◌≤◌, ◌+◌, ◌-◌, ℕ, zero, suc, List, [], ◌∷◌, Bool, true, false, Option, Some, None, length, map, take, get_or, refl, ap, ap₂, sym, subst, arith}
+use Rattle.std.specs.Prelude.{count_by, IsTrue, ◌&&◌, not}
 use Rattle.std.proofs.lemmas.List.{length-map, get_or-set_same, get_or-set_other, ext_get_or, get_or-map, get_or-append_right, get_or_append_left}
 use Rattle.std.proofs.lemmas.List.Elements.{All-cons, All-nil}
 use Rattle.std.proofs.Common.{length-append, set, replicate, ◌≢◌, ⊎_elim}
-use Rattle.std.proofs.lemmas.Bool.{cases_eq}
-use Rattle.std.proofs.lemmas.List.Sums.{count_by_more_yes, count_by_more_no, sum_by-take-le}
-use Rattle.circ_model.specs.declared.netlist.Latch.{Latch}
+use Rattle.std.proofs.lemmas.Bool.{cases_eq, lt-ltb, le-ltb}
+use Rattle.sim_words.proofs.Counting.{by_side, and_false, take_append_left}
+use Rattle.circ_model.proofs.FreeLatches.{IsFreeLatch, length_own_resets, listed_latch}
 use Rattle.circ_model.specs.declared.netlist.Reset.{Reset}
 use Rattle.circ_model.specs.declared.netlist.Reset.TheVariants.{Zero, One, Free}
-use Rattle.circ_model.specs.Meaning.{bit, Pair, Path, IsRun, IsInputRow, MayStartAt, latches_of, resets, row, next_state, state_at, inputs_at}
+use Rattle.circ_model.specs.Meaning.{bit, is_free, own_resets, Pair, Path, IsRun, StartsTied, IsInputRow, MayStartAt, latches_of, resets, row, next_state, state_at, inputs_at}
 use Rattle.circ_model.specs.Runs.{first_bit}
 use Rattle.circ_model.specs.Laws.{extended}
-use Rattle.circ_model.proofs.Paths.{extended_is_run, state_same, state_next, state_start}
+use Rattle.circ_model.proofs.Paths.{length_resets, left_reset_at, right_reset_at, extended_is_run, state_same, state_next, state_start}
 use Rattle.sim_words.specs.Lanes.{lane, lane_bit}
 use Rattle.sim_words.proofs.Lanes.{lane_at, lane_zero}
 use Rattle.sim_words.proofs.Frames.{length_lane}
-use Rattle.sim_words.specs.Simulation.{IsLane, IsLastFrame, IsStart, start_bit, is_free, free_before, next_frame}
-
-pub length_resets : (pair : Pair) → length (resets pair) ≡ latches_of pair
-length_resets pair =
-    omega (
-      arith,
-      length-append (map (λ (l : Latch). l.reset) pair.left.latches) (map (λ (l : Latch). l.reset) pair.right.latches),
-      length-map pair.left.latches (λ (l : Latch). l.reset),
-      length-map pair.right.latches (λ (l : Latch). l.reset),
-    )
-
--- free words before a latch and up to it
-pub count_more : (rs : List Reset) (i : ℕ) → i < length rs → count_by is_free (take (i + 1) rs) ≡ count_by is_free (take i rs) + (if is_free (get_or rs i Free) then 1 else 0)
-count_more rs i lt = step (is_free (get_or rs i Free)) refl
-  where
-    step : (b : Bool) → is_free (get_or rs i Free) ≡ b → count_by is_free (take (i + 1) rs) ≡ count_by is_free (take i rs) + (if b then 1 else 0)
-    step true e = count_by_more_yes is_free rs i Free lt e
-    step false e = count_by_more_no is_free rs i Free lt e ∙ omega arith
-
-pub count_within : (rs : List Reset) (i : ℕ) → i < length rs → get_or rs i Free ≡ Free → count_by is_free (take i rs) < count_by is_free rs
-count_within rs i lt e = omega (arith, count_by_more_yes is_free rs i Free lt (ap is_free e), sum_by-take-le (λ (r : Reset). if is_free r then 1 else 0) rs (i + 1))
+use Rattle.sim_words.specs.Simulation.{IsLane, IsLastFrame, IsStart, start_bit, free_before, next_frame}
 
 -- the first i latches have started
 abbrev pub AreStarted : Pair → List ℕ → ℕ → List ℕ → Type 0
@@ -60,11 +40,36 @@ may_start Zero b = refl
 may_start One b = refl
 may_start Free b = tt
 
+-- the j-th free latch of each side of a tied pair has word j
+left_word : (pair : Pair) (i j : ℕ) → IsFreeLatch pair.left i j → free_before pair i ≡ j
+left_word pair i j latch =
+    let within = latch.within in
+    ap (λ (low : Bool). by_side pair i (pair.tied && not low)) (lt-ltb i (length pair.left.latches) within) ∙ ap (by_side pair i) (and_false pair.tied)
+    ∙ ap (count_by is_free) (take_append_left i (own_resets pair.left) (own_resets pair.right) (omega (arith, length_own_resets pair.left))) ∙ latch.before
+
+right_word : (pair : Pair) (k j : ℕ) → IsTrue pair.tied → IsFreeLatch pair.right k j → free_before pair (length pair.left.latches + k) ≡ j
+right_word pair k j tied latch =
+    let i : ℕ = length pair.left.latches + k in
+    ap (λ (low : Bool). by_side pair i (pair.tied && not low)) (le-ltb i (length pair.left.latches) (omega arith)) ∙ ap (λ (on : Bool). by_side pair i (on && true)) tied
+    ∙ ap (λ (n : ℕ). count_by is_free (take n (own_resets pair.right))) (let e : i - length pair.left.latches ≡ k = omega arith in e) ∙ latch.before
+
+-- free latches start with their bits
+free_start : (pair : Pair) (free state : List Bool) (i j : ℕ) → IsStart pair free state → i < latches_of pair → get_or (resets pair) i Free ≡ Free → free_before pair i ≡ j → bit state i ≡ bit free j
+free_start pair free state i j h lt e number = h.bits i lt ∙ ap₂ (λ (r : Reset) (n : ℕ). start_bit r (bit free n)) e number
+
+start_ties : (pair : Pair) (free state : List Bool) → IsStart pair free state → IsTrue pair.tied → StartsTied pair (record { start = state; inputs = [] })
+start_ties pair free state h tied j lt less =
+    let (m, left) = listed_latch pair.left j lt in
+    let (k, right) = listed_latch pair.right j less in
+    ap (bit state) left.is ∙ free_start pair free state m j h (omega (arith, left.within)) (left_reset_at pair m left.within ∙ left.free) (left_word pair m j left)
+    ∙ sym (ap (λ (n : ℕ). bit state (length pair.left.latches + n)) right.is ∙ free_start pair free state (length pair.left.latches + k) j h (omega (arith, right.within)) (right_reset_at pair k ∙ right.free) (right_word pair k j tied right))
+
 -- a state after a reset is one in which a run starts
 pub start_is_run : (pair : Pair) (free state : List Bool) → IsStart pair free state → IsRun pair (record { start = state; inputs = [] })
 start_is_run pair free state h = record {
   is_path = record { start = h.size; inputs = All-nil (IsInputRow pair) };
   reset = λ i lt. subst (MayStartAt (get_or (resets pair) i Free)) (sym (h.bits i (let s = h.size in omega arith))) (may_start (get_or (resets pair) i Free) (bit free (free_before pair i)));
+  ties = start_ties pair free state h;
 }
 
 zeros_at : (n k : ℕ) → ◌≡◌ {A = ℕ} (get_or (replicate n 0) k 0) 0

@@ -1,8 +1,8 @@
 -- Simulation of 64 runs of a pair of netlists, frame by frame.
-use Rattle.std.specs.Prelude.{◌≡◌, ℕ, ◌+◌, ◌^◌, ◌<◌, List, [], length, take, Bool, true, false, slice_index_or, Option, Some, None, count_by}
+use Rattle.std.specs.Prelude.{◌≡◌, ℕ, ◌+◌, ◌-◌, ◌^◌, ◌<◌, nat_lt, ◌&&◌, not, if◌then◌else◌, List, [], length, take, Bool, true, false, slice_index_or, Option, Some, None, count_by}
 use Rattle.circ_model.specs.declared.netlist.Reset.{Reset}
 use Rattle.circ_model.specs.declared.netlist.Reset.TheVariants.{Zero, One, Free}
-use Rattle.circ_model.specs.Meaning.{bit, Pair, Path, IsRun, latches_of, places_of, resets, row_at, state_at}
+use Rattle.circ_model.specs.Meaning.{bit, is_free, own_resets, Pair, Path, IsRun, latches_of, places_of, resets, row_at, state_at}
 use Rattle.sim_words.specs.Lanes.{lane}
 
 -- the pair; the frame whose words stand, if there is one; a word for each place in that frame; and a word for each latch in the next
@@ -44,18 +44,14 @@ pub record IsSimulation (s : Simulation) : Type 0 where
   pub latches : length s.state ≡ latches_of s.pair
   pub lanes : (b : ℕ) → b < 64 → IsLane s.pair s.frame (lane b s.state) (lane b s.words)
 
-abbrev pub is_free : Reset → Bool
-is_free Zero = false
-is_free One = false
-is_free Free = true
-
--- how many latches start free (AIGER 1.9: uninitialized)
+-- how many words a reset takes: one for each free latch (AIGER 1.9: uninitialized), in a tied pair for those of the left netlist alone
 abbrev pub free_count : Pair → ℕ
-free_count pair = count_by is_free (resets pair)
+free_count pair = count_by is_free (if pair.tied then own_resets pair.left else resets pair)
 
--- how many of them stand before a latch of the state
+-- the word of a latch of the state: that with the number of free latches before it, on its own side where the pair is tied, so
+-- that partners have one word
 abbrev pub free_before : Pair → ℕ → ℕ
-free_before pair i = count_by is_free (take i (resets pair))
+free_before pair i = if pair.tied && not (nat_lt i (length pair.left.latches)) then count_by is_free (take (i - length pair.left.latches) (own_resets pair.right)) else count_by is_free (take i (resets pair))
 
 -- what a latch starts with where it has this reset and this bit of its own
 abbrev pub start_bit : Reset → Bool → Bool
@@ -67,3 +63,7 @@ start_bit Free b = b
 pub record IsStart (pair : Pair) (free state : List Bool) : Type 0 where
   pub size : length state ≡ latches_of pair
   pub bits : (i : ℕ) → i < latches_of pair → bit state i ≡ start_bit (slice_index_or (resets pair) i Free) (bit free (free_before pair i))
+
+-- how many free latches are counted on the way to a latch, where the count begins anew with the right netlist of a tied pair
+abbrev pub counted_before : Pair → ℕ → ℕ
+counted_before pair i = if pair.tied && nat_lt (length pair.left.latches) i then count_by is_free (take (i - length pair.left.latches) (own_resets pair.right)) else count_by is_free (take i (resets pair))

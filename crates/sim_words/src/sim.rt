@@ -50,15 +50,15 @@ impl<'p> SimState<'p> {
         })
     }
 
-    /// The number of free latches, each of which takes a word at a reset.
+    /// The number of words that a reset takes: one for each free latch, in a tied pair for those of the left netlist alone.
     pub fn free_latches(&self) -> u32
         ensures { result ≡ free_count self.now.pair }
     {
         count_free(self.product)
     }
 
-    /// Goes back before frame 0. The words are for the free latches, in the order of the state; a latch that is reset to 0
-    /// or to 1 starts so in all lanes.
+    /// Goes back before frame 0. The words are for the free latches, in the order of the state; in a tied pair they are for
+    /// the left netlist's, and a partner starts with the same word. A latch that is reset to 0 or to 1 starts so in all lanes.
     pub fn reset(&mut self, free: &[u64])
         requires free { length free.now ≡ free_count self.old.pair }
         ensures pair { self.new.pair ≡ self.old.pair }

@@ -1,9 +1,9 @@
 //! The state after a reset: what each latch starts with in each lane.
-ghost use Rattle.std.specs.Prelude.{◌≡◌, ◌<◌, ◌≤◌, ◌+◌, ℕ, length, if◌then◌else◌};
+ghost use Rattle.std.specs.Prelude.{◌≡◌, ◌<◌, ◌≤◌, ◌+◌, ℕ, length, take, count_by, if◌then◌else◌};
 ghost use Rattle.circ_model.specs.declared.netlist.Reset.TheVariants.{Free};
-ghost use Rattle.circ_model.specs.Meaning.{bit, latches_of};
+ghost use Rattle.circ_model.specs.Meaning.{bit, is_free, latches_of, resets};
 ghost use Rattle.sim_words.specs.Lanes.{lane, lane_bit};
-ghost use Rattle.sim_words.specs.Simulation.{IsStart, free_count, is_free, start_bit};
+ghost use Rattle.sim_words.specs.Simulation.{IsStart, free_count, free_before, counted_before, start_bit};
 
 use circ_model::Reset;
 use product_machine::Product;
@@ -31,15 +31,41 @@ fn taken(reset: Reset) -> usize
     }
 }
 
-// The number of free latches.
+// The number of words that a reset takes.
 pub(crate) fn count_free(product: &Product) -> u32
     ensures { result ≡ free_count product.now }
 {
+    let _cells = product.cells();
+    let end = if product.is_tied() {
+        product.left().latches().len() as u32
+    } else {
+        product.latches()
+    };
+    free_below(product, end)
+}
+
+// How many of the first latches are free.
+fn free_below(product: &Product, end: u32) -> u32
+    requires { end ≤ latches_of product.now }
+    ensures { result ≡ count_by is_free (take end (resets product.now)) }
+{
     let mut count = 0;
-    for i in 0..product.latches() {
+    for i in 0..end {
         count += taken(product.reset(i)) as u32;
     }
     count
+}
+
+// The number of a latch's word, where so many are counted on the way to it: in a tied pair the right side begins anew.
+fn word_number(product: &Product, i: u32, counted: usize) -> usize
+    requires { counted ≡ counted_before product.now i }
+    ensures { result ≡ free_before product.now i }
+{
+    if product.is_tied() && i as usize == product.left().latches().len() {
+        0
+    } else {
+        counted
+    }
 }
 
 // Writes the state after a reset.
@@ -49,10 +75,12 @@ pub(crate) fn write_start(product: &Product, free: &[u64], state: &mut [u64])
     ensures size { length state.new ≡ latches_of product.now }
     ensures lanes { (b : ℕ) → b < 64 → IsStart product.now (lane b free.now) (lane b state.new) }
 {
-    let mut used = 0;
+    let _cells = product.cells();
+    let mut counted = 0;
     for i in 0..product.latches() {
         let reset = product.reset(i);
+        let used = word_number(product, i, counted);
         state[i as usize] = start_word(reset, free, used);
-        used += taken(reset);
+        counted = used + taken(reset);
     }
 }

@@ -6,11 +6,12 @@ use Rattle.std.proofs.lemmas.Fmt.{decimal_by_steps}
 use Rattle.aiger_codec.specs.Numbers.{digits, value_from, number_at}
 use Rattle.aiger_codec.specs.Grammar.{IsDigit, SpellsNumber}
 use Rattle.aiger_codec.proofs.Spelled.{is_of_digit, number_made}
-use Rattle.circ_model.specs.Meaning.{Pair, Path, IsRun, outputs_of, latches_of}
+use Rattle.circ_model.specs.Meaning.{Pair, Path, IsRun, outputs_of, latches_of, resets}
 use Rattle.trace_witness.specs.Lines.{lines_of}
-use Rattle.trace_witness.specs.Bits.{are_marks, has_unknown, bits_fault, bits_of, start_fault, is_byte}
+use Rattle.trace_witness.specs.Bits.{are_marks, has_unknown, bits_fault, bits_of, is_against, breaks_tie, start_fault, is_byte}
 use Rattle.trace_witness.specs.Texts.{bytes_of, frames_of, frames_text, trace_of, trace_text, output_named}
 use Rattle.trace_witness.proofs.Starts.{not_against_run}
+use Rattle.trace_witness.proofs.Ties.{tied_run}
 
 pub line_again : (text rest : List ℕ) → AllByRecursion (λ b. b ≢ 10) text → lines_of (text ++ 10 ∷ rest) ≡ text ∷ lines_of rest
 unfolding lines_of
@@ -102,8 +103,9 @@ start_good : (pair : Pair) (run : Path) → IsRun pair run → start_fault pair 
 start_good pair run is =
     let g = line_good (latches_of pair) run.start is.is_path.start in
     let b = bits_again run.start in
-    let a = not_against_run pair run is in
-    rw (g, b, a) refl
+    let a = ap (is_against (resets pair)) b ∙ not_against_run pair run is in
+    let t = ap (breaks_tie pair) b ∙ tied_run pair run is in
+    rw (g, a, t) refl
 
 frames_again : (width line : ℕ) (front rows : List (List Bool)) → All (λ r. length r ≡ width) rows → frames_of width line front (lines_of (frames_text rows)) ≡ Ok (front ++ rows)
 unfolding frames_of frames_text

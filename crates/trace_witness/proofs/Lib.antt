@@ -1,5 +1,6 @@
 pub mod Splits
 pub mod Starts
+pub mod Ties
 pub mod Again
 pub mod Runs
 pub mod Outputs

@@ -12,9 +12,10 @@ use Rattle.trace_witness.specs.declared.read.Trace.{Trace}
 use Rattle.trace_witness.specs.declared.fault.TraceKind.{TraceKind}
 use Rattle.trace_witness.specs.declared.fault.TraceFault.{TraceFault}
 use Rattle.trace_witness.specs.declared.fault.TraceError.{TraceError}
-use Rattle.trace_witness.specs.Bits.{are_marks, bits_fault, bit_of, bits_of, is_against, reset_fault, start_fault, is_byte}
+use Rattle.trace_witness.specs.Bits.{are_marks, bits_fault, bit_of, bits_of, is_against, reset_fault, breaks_tie, tie_fault, start_fault, is_byte}
 use Rattle.trace_witness.specs.Texts.{frame_or, frames_of, with_rows, started, start_of, below, output_named, named, output_of, trace_of, IsDue}
 use Rattle.trace_witness.proofs.Starts.{start_from}
+use Rattle.trace_witness.proofs.Ties.{each_like, run_ties}
 
 abbrev HasWidth : ℕ → List Bool → Type 0
 HasWidth width row = length row ≡ width
@@ -32,14 +33,27 @@ good_length width line e = elim (chosen (are_marks line) _ _ None e) [
   | inr p ↦ absurd (no_kind p.1)
 ]
 
-good_start : (pair : Pair) (line : List ℕ) → start_fault pair line ≡ None → (length line ≡ latches_of pair) × (is_against (resets pair) (bits_of line) ≡ false)
-good_start pair line e = by_bits (bits_fault (latches_of pair) line) refl e
+-- so are start bits
+record IsGoodStart (pair : Pair) (line : List ℕ) : Type 0 where
+  length_is : length line ≡ latches_of pair
+  resets_kept : is_against (resets pair) (bits_of line) ≡ false
+  ties_kept : breaks_tie pair (bits_of line) ≡ false
+
+good_start : (pair : Pair) (line : List ℕ) → start_fault pair line ≡ None → IsGoodStart pair line
+good_start pair line e = by_reset (reset_fault pair line (bits_fault (latches_of pair) line)) refl e
   where
     by_bits : (k : Option TraceKind) → bits_fault (latches_of pair) line ≡ k → reset_fault pair line k ≡ None → (length line ≡ latches_of pair) × (is_against (resets pair) (bits_of line) ≡ false)
     by_bits (Some kind) is g = absurd (no_kind g)
     by_bits None is g = elim (chosen (is_against (resets pair) (bits_of line)) _ _ None g) [
       | inl p ↦ absurd (no_kind p.1)
       | inr p ↦ (good_length (latches_of pair) line is, p.0)
+    ]
+
+    by_reset : (k : Option TraceKind) → reset_fault pair line (bits_fault (latches_of pair) line) ≡ k → tie_fault pair line k ≡ None → IsGoodStart pair line
+    by_reset (Some kind) is g = absurd (no_kind g)
+    by_reset None is g = elim (chosen (breaks_tie pair (bits_of line)) _ _ None g) [
+      | inl p ↦ absurd (no_kind p.1)
+      | inr p ↦ let b = by_bits (bits_fault (latches_of pair) line) refl is in record { length_is = b.0; resets_kept = b.1; ties_kept = p.0 }
     ]
 
 -- input rows
@@ -96,8 +110,9 @@ begins pair output l ls t lt e = by_start (start_fault pair l) refl e
         let n = length-map l bit_of in
         subst (λ (u : Trace). IsTrace pair u) (same_trace (record { output = output; run = record { start = bits_of l; inputs = rows } }) t g) (record {
           run = record {
-            is_path = record { start = n ∙ s.0; inputs = rows_read (length pair.left.inputs) 4 [] ls rows (λ k d lt. absurd (omega arith)) is };
-            reset = start_from (resets pair) (bits_of l) s.1;
+            is_path = record { start = n ∙ s.length_is; inputs = rows_read (length pair.left.inputs) 4 [] ls rows (λ k d lt. absurd (omega arith)) is };
+            reset = start_from (resets pair) (bits_of l) s.resets_kept;
+            ties = run_ties pair (record { start = bits_of l; inputs = rows }) (each_like pair (bits_of l) s.ties_kept);
           };
           output = lt;
         })

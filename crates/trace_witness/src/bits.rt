@@ -1,7 +1,8 @@
 // Lines of bits: what is wrong with them, and the rows that they spell.
-ghost use Rattle.std.specs.Prelude.{◌≡◌, ◌<◌, length, IfNone, IfOk};
+ghost use Rattle.std.specs.Prelude.{◌≡◌, ◌<◌, ◌↔◌, IsTrue, [], length, IfNone, IfOk};
 ghost use Rattle.circ_model.specs.Meaning.{latches_of, resets};
-ghost use Rattle.trace_witness.specs.Bits.{is_mark, are_marks, has_unknown, bits_fault, bit_of, bits_of, clashes, is_against, start_fault, is_byte};
+ghost use Rattle.product_machine.specs.States.{StartsLike};
+ghost use Rattle.trace_witness.specs.Bits.{is_mark, are_marks, has_unknown, bits_fault, bit_of, bits_of, clashes, is_against, breaks_tie, start_fault, is_byte};
 
 use crate::fault::TraceKind;
 use bit_rows::BitRow;
@@ -76,6 +77,30 @@ fn is_against(product: &Product, line: &[u8]) -> bool
     false
 }
 
+// Whether latch i starts as its partner, where it has one.
+fn starts_like(product: &Product, line: &[u8], i: u32) -> bool
+    requires line { length line.now ≡ latches_of product.now }
+    requires latch { i < latches_of product.now }
+    ensures { IsTrue result ↔ StartsLike product.now (record { start = bits_of line.now; inputs = [] }) i }
+{
+    match product.tie(i) {
+        None => true,
+        Some(partner) => (line[i as usize] == 49) == (line[partner as usize] == 49),
+    }
+}
+
+fn breaks_tie(product: &Product, line: &[u8]) -> bool
+    requires { length line.now ≡ latches_of product.now }
+    ensures { result ≡ breaks_tie product.now (bits_of line.now) }
+{
+    for i in 0..product.latches() {
+        if !starts_like(product, line, i) {
+            return true;
+        }
+    }
+    false
+}
+
 // What is wrong with a line of start bits.
 pub fn start_fault(product: &Product, line: &[u8]) -> Option<TraceKind>
     ensures fault { result ≡ start_fault product.now line.now }
@@ -86,6 +111,9 @@ pub fn start_fault(product: &Product, line: &[u8]) -> Option<TraceKind>
     }
     if is_against(product, line) {
         return Some(TraceKind::Reset);
+    }
+    if breaks_tie(product, line) {
+        return Some(TraceKind::Tie);
     }
     None
 }

@@ -15,6 +15,8 @@ pub enum TraceKind {
     Reset,
     /// The text ends within it.
     Truncated,
+    /// The start bit of a tied latch isn't its partner's.
+    Tie,
 }
 
 impl TraceKind {
@@ -28,6 +30,7 @@ impl TraceKind {
             TraceKind::Unknown => "unknown",
             TraceKind::Reset => "reset",
             TraceKind::Truncated => "truncated",
+            TraceKind::Tie => "tie",
         }
     }
 }

@@ -53,6 +53,9 @@ fn read_lines(alloc: Global, product: &Product, bytes: &[u8]) -> Result<Checked,
     if head.signals != product.len() {
         return Ok(no(CertKind::Signals, 1));
     }
+    if head.tied != product.is_tied() {
+        return Ok(no(CertKind::Tie, 1));
+    }
     read_classes(alloc, product, head.k, rest)
 }
 

@@ -1,5 +1,6 @@
 use Rattle.circ_model.proofs.WorkedVerdicts.{toggles_correspond, toggles_are_equivalent}
 use Rattle.circ_model.proofs.WorkedDifferences.{toggle_is_undecided, toggle_is_different, kept_are_different, toggle_first_differs}
+use Rattle.circ_model.proofs.WorkedTies.{tied_kept_are_equivalent}
 use Rattle.circ_model.proofs.laws.worked_verdicts.Goals as goal
 
 pub returns-clause-correspondence : goal.returns-clause-correspondence
@@ -19,3 +20,6 @@ returns-clause-different_at_once c = kept_are_different
 
 pub returns-clause-first_difference : goal.returns-clause-first_difference
 returns-clause-first_difference c = toggle_first_differs
+
+pub returns-clause-equivalent_when_tied : goal.returns-clause-equivalent_when_tied
+returns-clause-equivalent_when_tied c = tied_kept_are_equivalent

@@ -1,6 +1,6 @@
 use Rattle.product_machine.proofs.Follow.{length_cells}
 use Rattle.circ_model.specs.Meaning.{places_of}
-use Rattle.std.proofs.Common.{◌∙◌, ◌≤◌, ◌*◌, length, ap, arith}
+use Rattle.std.proofs.Common.{◌∙◌, ◌≤◌, ◌*◌, ℕ, length, ap, sym, subst, arith}
 use Rattle.std.proofs.Math.Nat.{mul-le-mul_right}
 use Rattle.circ_model.specs.Netlist.{Netlist}
 use Rattle.product_machine.proofs.Size.{few_places}
@@ -45,3 +45,7 @@ returns c =
     (ap length (c.inputs.ensures.same ∙ ap (λ (n : Netlist). n.inputs) c.left.ensures)) (ap length (c.latches.ensures ∙ ap (λ (n : Netlist). n.latches) c.left-2.ensures))
     (ap length (c.gates.ensures ∙ ap (λ (n : Netlist). n.gates) c.left-3.ensures)) (ap length (c.latches-2.ensures ∙ ap (λ (n : Netlist). n.latches) c.right.ensures)) (ap length c.cells.ensures.cells ∙ length_cells c.args.product.now)
     c.in_ok-start.ensures.size c.in_ok-start.ensures.left c.in_ok-start.ensures.right c.in_ok-inputs.ensures.size c.in_ok-inputs.ensures.sizes c.in_ok-inputs.ensures.bits
+
+pub input_rows-requires-clause-source : goal.input_rows-requires-clause-source
+input_rows-requires-clause-source c =
+    subst (λ (n : ℕ). c.args.frames * n ≤ length c.args.row.now) (sym (ap length c.cells.ensures.cells ∙ length_cells c.args.product.now)) c.requires.size

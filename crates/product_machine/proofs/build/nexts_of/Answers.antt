@@ -1,4 +1,4 @@
-use Rattle.std.proofs.Common.{◌∙◌, ◌++◌, ◌<◌, ◌/◌, ℕ, List, map, length, ap, ap₂, sym, subst}
+use Rattle.std.proofs.Common.{false, ◌∙◌, ◌++◌, ◌<◌, ◌/◌, ℕ, List, map, length, ap, ap₂, sym, subst}
 use Rattle.std.specs.List.{All}
 use Rattle.circ_model.specs.declared.netlist.Latch.{Latch}
 use Rattle.circ_model.specs.Meaning.{Pair, literal_by}
@@ -18,7 +18,7 @@ push_nexts-requires-2-clause-within c =
 
 pub returns : goal.returns
 returns c =
-    let pair : Pair = record { left = c.args.left.now; right = c.args.right.now } in
+    let pair : Pair = record { left = c.args.left.now; right = c.args.right.now; tied = false } in
     let lt : List ℕ = c.args.tables.now.left.items in
     let rt : List ℕ = c.args.tables.now.right.items in
     let by : List ℕ → List Latch → List ℕ = λ t ls. map (λ (l : Latch). literal_by (says t) l.next) ls in

@@ -1,4 +1,4 @@
-use Rattle.std.proofs.Common.{◌∙◌, ◌<◌, ◌/◌, ℕ, List, length, ap, ap₂, sym, subst}
+use Rattle.std.proofs.Common.{false, ◌∙◌, ◌<◌, ◌/◌, ℕ, List, length, ap, ap₂, sym, subst}
 use Rattle.std.specs.List.{All}
 use Rattle.circ_model.specs.Meaning.{Pair}
 use Rattle.product_machine.specs.Tables.{says, outputs_by}
@@ -17,7 +17,7 @@ push_outputs-requires-clause-right_within c =
 
 pub returns : goal.returns
 returns c =
-    let pair : Pair = record { left = c.args.left.now; right = c.args.right.now } in
+    let pair : Pair = record { left = c.args.left.now; right = c.args.right.now; tied = false } in
     c.in_ok-push_outputs.ensures
     ∙ ap₂ (λ (l r : List ℕ). outputs_by (says l) (says r) c.outputs.result.now c.outputs-2.result.now) c.as_slice.ensures.value c.as_slice-2.ensures.value
     ∙ ap₂ (outputs_by (says c.args.tables.now.left.items) (says c.args.tables.now.right.items)) c.outputs.ensures.same c.outputs-2.ensures.same

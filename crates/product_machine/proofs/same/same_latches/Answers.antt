@@ -1,6 +1,6 @@
 use Rattle.std.proofs.Common.{refl, arith}
 use Rattle.std.proofs.lemmas.List.{ext_get_or}
-use Rattle.product_machine.proofs.Sides.{no_latch}
+use Rattle.product_machine.specs.Cells.{no_latch}
 use Rattle.product_machine.proofs.same.same_latches.Goals as goal
 
 pub returns : goal.returns

@@ -1,5 +1,5 @@
 use Rattle.std.proofs.Common.{◌≡◌, ◌<◌, ℕ, get_or}
-use Rattle.product_machine.proofs.Sides.{no_latch}
+use Rattle.product_machine.specs.Cells.{no_latch}
 use Rattle.product_machine.proofs.same.same_latches.Given as goal
 
 abbrev pub invariant-loop-i : goal.invariant-loop-i

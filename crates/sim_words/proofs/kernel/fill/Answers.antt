@@ -6,7 +6,7 @@ use Rattle.product_machine.specs.Cells.{cells}
 use Rattle.product_machine.proofs.Follow.{length_cells}
 use Rattle.product_machine.proofs.OneRow.{inside, IsFreeCell}
 use Rattle.product_machine.proofs.TableRead.{operands}
-use Rattle.sim_words.proofs.Frames.{cell_is, IsFilled, fill_low, fill_gate, fill_free, fill_all}
+use Rattle.sim_words.proofs.Frames.{cell_is, IsFilled, fill_begun, fill_low, fill_gate, fill_free, fill_all}
 use Rattle.sim_words.proofs.kernel.fill.Goals.{in-Low, in-Product, in-Given, in-Held}
 use Rattle.sim_words.proofs.kernel.fill.Goals as goal
 
@@ -44,3 +44,12 @@ loop-p-preserved c =
 pub returns-clause-lanes : goal.returns-clause-lanes
 returns-clause-lanes c b lt state inputs on ready =
     fill_all c.args.product.now c.args.words.now c.loop-p.words c.loop-p.p b state inputs (omega (arith, ap length c.cells-cells.ensures.cells, length_cells c.args.product.now)) c.loop-p.invariant lt on ready
+
+pub loop-p-init : goal.loop-p-init
+loop-p-init c = fill_begun c.args.product.now c.args.words.now c.requires.size
+
+pub bounds-words-p : goal.bounds-words-p
+bounds-words-p c = let test = c.loop-p-test.true in omega (arith, ap length c.cells-cells.ensures.cells, length_cells c.args.product.now, c.loop-p.invariant.size)
+
+pub bounds-words-p-in-Product : goal.bounds-words-p-in-Product
+bounds-words-p-in-Product c = let test = c.loop-p-test.true in omega (arith, ap length c.cells-cells.ensures.cells, length_cells c.args.product.now, c.loop-p.invariant.size)

@@ -1,16 +1,11 @@
-use Rattle.std.proofs.Common.{◌≡◌, ◌∙◌, ◌<◌, ◌+◌, ℕ, length, take, ap, ap₂, sym, arith, if◌then◌else◌}
-use Rattle.std.proofs.Common.{length-take}
-use Rattle.std.proofs.lemmas.List.Sums.{count_by-le-length}
-use Rattle.circ_model.specs.declared.netlist.Reset.{Reset}
-use Rattle.circ_model.specs.Meaning.{Pair, resets}
-use Rattle.sim_words.specs.Simulation.{is_free, free_before}
-use Rattle.sim_words.proofs.Runs.{length_resets, count_more}
+use Rattle.std.proofs.Common.{◌∙◌, length, ap, arith}
+use Rattle.circ_model.specs.Netlist.{Netlist}
+use Rattle.circ_model.specs.Meaning.{Pair}
+use Rattle.circ_model.proofs.Rows.{length_places}
+use Rattle.product_machine.proofs.Size.{few_places}
 use Rattle.sim_words.proofs.start.count_free.Goals as goal
 
-pub loop-i-preserved : goal.loop-i-preserved
-loop-i-preserved c =
+pub overflow_cast-end : goal.overflow_cast-end
+overflow_cast-end c =
     let pair : Pair = c.args.product.now in
-    let lt : c.loop-i.i < length (resets pair) = omega (arith, c.latches-i-end.ensures, length_resets pair) in
-    let count : c.loop-i.count + c.taken.result ≡ free_before pair (c.loop-i.i + 1) =
-    ap₂ (λ (x y : ℕ). x + y) c.loop-i.invariant.0 (c.taken.ensures ∙ ap (λ (r : Reset). if is_free r then 1 else 0) c.reset.ensures) ∙ sym (count_more (resets pair) c.loop-i.i lt) in
-    (count, omega (arith, count, count_by-le-length is_free (take (c.loop-i.i + 1) (resets pair)), length-take (c.loop-i.i + 1) (resets pair)))
+    omega (arith, few_places pair c.cells-cells.ensures.pair, length_places pair, ap length (c.latches.ensures ∙ ap (λ (net : Netlist). net.latches) c.left.ensures))

@@ -1,8 +1,8 @@
 use Rattle.std.proofs.Common.{◌≡◌, length}
 use Rattle.circ_model.specs.Meaning.{latches_of}
-use Rattle.sim_words.specs.Simulation.{free_before}
+use Rattle.sim_words.specs.Simulation.{counted_before}
 use Rattle.sim_words.proofs.Runs.{AreStarted}
 use Rattle.sim_words.proofs.start.write_start.Given as goal
 
 abbrev pub invariant-loop-i : goal.invariant-loop-i
-invariant-loop-i l = (length l.state ≡ latches_of l.product) × (l.used ≡ free_before l.product l.i) × AreStarted l.product l.free l.i l.state
+invariant-loop-i l = (length l.state ≡ latches_of l.product) × (l.counted ≡ counted_before l.product l.i) × AreStarted l.product l.free l.i l.state

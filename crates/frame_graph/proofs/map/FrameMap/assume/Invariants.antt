@@ -1,4 +1,4 @@
-use Rattle.std.proofs.Common.{◌≡◌, ◌<◌, ◌/◌, length}
+use Rattle.std.proofs.Common.{◌<◌, ◌/◌, length}
 use Rattle.class_partition.specs.Classes.{Classes as AnyClasses}
 use Rattle.frame_graph.specs.Laws.{IsLater}
 use Rattle.frame_graph.specs.Maps.{IsStepMap}

@@ -1,8 +1,7 @@
-use Rattle.std.proofs.Common.{◌≡◌, ◌∷◌, [], ℕ, Bool, IfNone, Option}
+use Rattle.std.proofs.Common.{◌≡◌, ◌∷◌, [], ℕ, Bool, IfNone}
 use Rattle.std.proofs.lemmas.Result.{IfOk-weaker}
 use Rattle.circ_model.specs.Meaning.{literal_value}
 use Rattle.and_graph.specs.Graphs.{AreEqual, Obeys, product_of}
-use Rattle.and_graph.specs.declared.pattern.Pattern.{Pattern}
 use Rattle.and_graph.proofs.Nodes.{obeys_before}
 use Rattle.frame_graph.specs.Inductions.{StepPasses}
 use Rattle.frame_graph.specs.Laws.{IsLater}

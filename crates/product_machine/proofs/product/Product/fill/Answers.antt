@@ -53,3 +53,13 @@ pub returns : goal.returns
 returns c =
     let tab : c.self.inside.table.items ≡ cells c.args.self.now = c.self.invariant.1 ∙ ap cells c.self.view_is in
     written_all c.args.self.now c.args.state.now c.args.inputs.now c.loop-p.values c.loop-p.p (omega (arith, ap length tab, length_cells c.args.self.now)) c.loop-p.invariant
+
+pub set-requires : goal.set-requires
+set-requires c =
+    let tab : c.self.inside.table.items ≡ cells c.args.self.now = c.self.invariant.1 ∙ ap cells c.self.view_is in
+    omega (arith, ap length tab, length_cells c.args.self.now, c.loop-p.invariant.size)
+
+pub set-requires-in-Product : goal.set-requires-in-Product
+set-requires-in-Product c =
+    let tab : c.self.inside.table.items ≡ cells c.args.self.now = c.self.invariant.1 ∙ ap cells c.self.view_is in
+    omega (arith, ap length tab, length_cells c.args.self.now, c.loop-p.invariant.size)

@@ -2,7 +2,7 @@ use Rattle.std.proofs.Common.{length, ap, arith}
 use Rattle.circ_model.proofs.Order.{length_variables}
 use Rattle.circ_model.proofs.Rows.{length_leaves}
 use Rattle.product_machine.proofs.Size.{few_variables}
-use Rattle.product_machine.proofs.product.Product.new.Goals as goal
+use Rattle.product_machine.proofs.product.Product.paired.Goals as goal
 
 pub overflow_cast-inputs : goal.overflow_cast-inputs
 overflow_cast-inputs c = omega (arith, few_variables c.args.left c.inputs.ensures.sound, length_variables c.args.left, length_leaves c.args.left, c.inputs.ensures.sound.size, ap length c.inputs.ensures.same)
