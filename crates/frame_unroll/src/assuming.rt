@@ -36,12 +36,7 @@ fn add_assumption(
 }
 
 // That all of these are.
-fn add_assumed(
-    cnf: &mut Cnf,
-    n: u32,
-    frames: u32,
-    assumed: &[(u32, Lit)],
-) -> Result<(), AllocError>
+fn add_assumed(cnf: &mut Cnf, n: u32, frames: u32, assumed: &[(u32, Lit)]) -> Result<(), AllocError>
     requires assumed { All (λ p. (p.0 < frames) × (p.1 / 2 < n)) assumed.now }
     requires room { frames * n < 1073741824 }
     requires variables { frames * n ≤ cnf.old.vars }
