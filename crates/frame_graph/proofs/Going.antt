@@ -7,7 +7,7 @@ use Rattle.and_graph.specs.declared.node.Node.{Node}
 use Rattle.and_graph.specs.Graphs.{GrowsTo, Obeys}
 use Rattle.and_graph.proofs.Nodes.{obeys_before}
 use Rattle.frame_graph.specs.Frames.{FrameOf, GoesOn, GoesOnWith, Stands}
-use Rattle.frame_graph.specs.Inductions.{Induction, IsBaseRun, IsStepPath}
+use Rattle.frame_graph.specs.Inductions.{Induction, IsRunTo, IsStepPath}
 use Rattle.frame_graph.specs.Leaves.{Reads}
 use Rattle.frame_graph.specs.Maps.{Shows}
 use Rattle.frame_graph.proofs.Showing.{stands_added}
@@ -51,8 +51,8 @@ grows_twice a b c first last =
 
 -- another frame of the runs from reset
 pub shows_run : (f : FrameOf) (k : ℕ) (nodes more : List Node) (before after : List ℕ) → IsTrue f.from_reset → f.number < k → GrowsTo nodes more → GoesOn f more before after
-    → ((run : Path) (v : ℕ → Bool) → IsBaseRun f.leaves.pair k run → Obeys nodes v → Reads f.leaves run v → Shows f.leaves.pair before run v)
-    → (run : Path) (v : ℕ → Bool) → IsBaseRun f.leaves.pair k run → Obeys more v → Reads f.leaves run v → Shows f.leaves.pair after run v
+    → ((run : Path) (v : ℕ → Bool) → IsRunTo f.leaves.pair k run → Obeys nodes v → Reads f.leaves run v → Shows f.leaves.pair before run v)
+    → (run : Path) (v : ℕ → Bool) → IsRunTo f.leaves.pair k run → Obeys more v → Reads f.leaves run v → Shows f.leaves.pair after run v
 shows_run f k nodes more before after reset lt on goes shows run v is obeys reads =
     let rows = is.rows in
     (goes.stands run v obeys (record {

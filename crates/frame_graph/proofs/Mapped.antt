@@ -1,5 +1,5 @@
 -- Maps: how they come about, what they tell of a needed pair, and how one that passed is taken in.
-use Rattle.std.proofs.Common.{◌≡◌, ◌≢◌, ◌∙◌, ◌<◌, ◌≤◌, ◌/◌, ◌+◌, ◌*◌, ℕ, Bool, false, List, get_or, length, set, ap, ap₂, sym, subst, arith, ⊎_elim}
+use Rattle.std.proofs.Common.{◌≡◌, ◌≢◌, ◌∙◌, ◌<◌, ◌≤◌, ◌/◌, ◌+◌, ◌*◌, ℕ, Bool, true, false, List, get_or, length, set, refl, ap, ap₂, sym, subst, arith, ⊎_elim}
 use Rattle.std.proofs.lemmas.Bool.{cases_eq}
 use Rattle.std.proofs.lemmas.List.{get_or_default, get_or-set_other, length-set}
 use Rattle.std.proofs.lemmas.Grind.{get_or-set_at}
@@ -12,18 +12,29 @@ use Rattle.and_graph.specs.Graphs.{AreEqual, GrowsTo, IsGraph, Obeys}
 use Rattle.and_graph.proofs.Nodes.{obeys_before}
 use Rattle.std.specs.Prelude.{All}
 use Rattle.frame_graph.specs.Frames.{FrameOf, GoesOn, Stands}
-use Rattle.frame_graph.specs.Inductions.{HoldsInFrame, IsBaseRun, IsStepPath, StepPasses}
+use Rattle.frame_graph.specs.Inductions.{HoldsInFrame, IsRunTo, IsStepPath, StepPasses}
 use Rattle.frame_graph.specs.Leaves.{AreLeaves, Leaves, Reads}
 use Rattle.frame_graph.specs.Maps.{AreWithin, IsResetMap, IsStepMap, Mapping, Shows, induction_of}
 use Rattle.frame_graph.specs.Owed.{AreEqualWhere, IsOwed}
-use Rattle.frame_graph.proofs.Going.{stands_step}
+use Rattle.frame_graph.proofs.Going.{shows_run, stands_step}
 use Rattle.frame_graph.proofs.ReadPaths.{each_path_is_read, input_within}
 use Rattle.frame_graph.proofs.Showing.{same_place, shown_at}
 use Rattle.frame_graph.proofs.Staying.{grown_is_later, later_leaves}
 
 pub reset_mapped : (nodes more : List Node) (l : Leaves) (k : ℕ) (literals : List ℕ) → AreLeaves nodes l → GrowsTo nodes more → length literals ≡ k * places_of l.pair → AreWithin more literals
-    → ((run : Path) (v : ℕ → Bool) → IsBaseRun l.pair k run → Obeys more v → Reads l run v → Shows l.pair literals run v) → IsResetMap more (record { leaves = l; depth = k; literals = literals })
+    → ((run : Path) (v : ℕ → Bool) → IsRunTo l.pair k run → Obeys more v → Reads l run v → Shows l.pair literals run v) → IsResetMap more (record { leaves = l; depth = k; literals = literals })
 reset_mapped nodes more l k literals leaves on size within shows = record { leaves = later_leaves nodes more l (grown_is_later nodes more on) leaves; size = size; within = within; shows = shows }
+
+-- and one frame more
+pub next_mapped : (nodes more : List Node) (m : Mapping) (after : List ℕ) → IsResetMap nodes m → GrowsTo nodes more → length after ≡ (m.depth + 1) * places_of m.leaves.pair → AreWithin more after
+    → GoesOn (record { leaves = m.leaves; from_reset = true; number = m.depth }) more m.literals after → IsResetMap more (record { leaves = m.leaves; depth = m.depth + 1; literals = after })
+next_mapped nodes more m after is on size within goes = record {
+  leaves = later_leaves nodes more m.leaves (grown_is_later nodes more on) is.leaves;
+  size = size;
+  within = within;
+  shows = shows_run (record { leaves = m.leaves; from_reset = true; number = m.depth }) (m.depth + 1) nodes more m.literals after refl (omega arith) on goes
+      (λ run v to obeys reads. let rows = to.rows in is.shows run v (record { is_run = to.is_run; rows = omega arith }) obeys reads);
+}
 
 pub step_mapped : (nodes more : List Node) (l : Leaves) (k : ℕ) (literals : List ℕ) (classes : Classes) → AreLeaves nodes l → k < l.frames → GrowsTo nodes more → length literals ≡ k * places_of l.pair → AreWithin more literals
     → ((path : Path) (v : ℕ → Bool) → IsStepPath (record { pair = l.pair; k = k; classes = classes }) path → Obeys more v → Reads l path v → Shows l.pair literals path v) → IsStepMap more (record { leaves = l; depth = k; literals = literals }) classes
@@ -99,7 +110,8 @@ equal_holds pair classes literals t p a b path v are shows equal =
 pub base_holds : (nodes : List Node) (m : Mapping) (classes : Classes) (t p a b : ℕ) → IsGraph nodes → IsResetMap nodes m → ArePair m.leaves.pair classes m.literals t p a b → AreEqual nodes a b → HoldsInFrame (induction_of m classes) t p
 base_holds nodes m classes t p a b graph is are equal run on =
     let (v, obeys, reads) = each_path_is_read nodes m.leaves run graph is.leaves in
-    equal_holds m.leaves.pair classes m.literals t p a b run v are (is.shows run v on obeys reads) (equal v obeys)
+    let rows = on.rows in
+    equal_holds m.leaves.pair classes m.literals t p a b run v are (is.shows run v (record { is_run = on.is_run; rows = omega arith }) obeys reads) (equal v obeys)
 
 pub step_holds : (nodes : List Node) (m : Mapping) (classes : Classes) (p a b : ℕ) → IsGraph nodes → IsStepMap nodes m classes → ArePair m.leaves.pair classes m.literals m.depth p a b → AreEqual nodes a b → StepPasses (induction_of m classes) p
 step_holds nodes m classes p a b graph is are equal path on =

@@ -36,7 +36,7 @@ pub record IsInputBit (pair : Pair) (p : ℕ) : Type 0 where
   pub within : p ≤ length pair.left.inputs
   pub bits : (path : Path) (t : ℕ) → IsPath pair path → t < length path.inputs → bit (row_at pair path t) p ≡ bit (inputs_at path t) (p - 1)
 
-input_bit : (pair : Pair) (k : ℕ) → IsSoundPair pair → k < length pair.left.inputs → IsInputBit pair (1 + k)
+pub input_bit : (pair : Pair) (k : ℕ) → IsSoundPair pair → k < length pair.left.inputs → IsInputBit pair (1 + k)
 input_bit pair k is lt = record {
   some = omega arith;
   within = omega arith;
@@ -73,7 +73,7 @@ pub record IsLatchAt (pair : Pair) (p : ℕ) : Type 0 where
   pub gates : length pair.left.latches ≤ p - 1 - length pair.left.inputs → length pair.left.gates ≤ p - 1 - length pair.left.inputs
   pub right : length pair.left.latches ≤ p - 1 - length pair.left.inputs → IsLatchBit pair p (p - 1 - length pair.left.inputs - length pair.left.gates)
 
-left_bit : (pair : Pair) (k : ℕ) → IsSoundPair pair → k < length pair.left.latches → IsLatchBit pair (left_from pair + k) k
+pub left_bit : (pair : Pair) (k : ℕ) → IsSoundPair pair → k < length pair.left.latches → IsLatchBit pair (left_from pair + k) k
 unfolding state_at
 left_bit pair k is lt = record {
   within = omega arith;
@@ -83,7 +83,7 @@ left_bit pair k is lt = record {
       ∙ get_or-take (length pair.left.latches) path.start k false lt;
 }
 
-right_bit : (pair : Pair) (k : ℕ) → IsSoundPair pair → k < length pair.right.latches → IsLatchBit pair (right_from pair + k) (length pair.left.latches + k)
+pub right_bit : (pair : Pair) (k : ℕ) → IsSoundPair pair → k < length pair.right.latches → IsLatchBit pair (right_from pair + k) (length pair.left.latches + k)
 unfolding state_at
 right_bit pair k is lt = record {
   within = omega arith;

@@ -1,6 +1,6 @@
 -- What k-induction has to prove of a place and the least place of its class: its base and its step (van Eijk, IEEE TCAD 19(7), 2000;
 -- Sheeran, Singh, Stålmarck, FMCAD 2000).
-use Rattle.std.specs.Prelude.{◌≡◌, ℕ, ◌+◌, ◌<◌, length}
+use Rattle.std.specs.Prelude.{◌≡◌, ℕ, ◌+◌, ◌<◌, ◌≤◌, length}
 use Rattle.circ_model.specs.Meaning.{Pair, Path, IsPath, IsRun, places_of, row_at}
 use Rattle.circ_model.specs.Correspondence.{HoldsIn}
 use Rattle.class_partition.specs.Classes.{Classes, HoldIn, needed}
@@ -22,6 +22,11 @@ pub record IsBaseRun (pair : Pair) (k : ℕ) (run : Path) : Type 0 where
   pub is_run : IsRun pair run
   pub rows : length run.inputs ≡ k
 
+-- a run of so many frames or more
+pub record IsRunTo (pair : Pair) (k : ℕ) (run : Path) : Type 0 where
+  pub is_run : IsRun pair run
+  pub rows : k ≤ length run.inputs
+
 -- a place is equal to its class's least place, at their relative phase, in the last frame of each path of the step
 abbrev pub StepPasses : Induction → ℕ → Type 0
 StepPasses i p = (path : Path) → IsStepPath i path → HoldsIn (row_at i.pair path i.k) (needed i.classes p)
@@ -34,6 +39,6 @@ HoldsInFrame i t p = (run : Path) → IsBaseRun i.pair i.k run → HoldsIn (row_
 abbrev pub BasePasses : Induction → ℕ → Type 0
 BasePasses i p = (t : ℕ) → t < i.k → HoldsInFrame i t p
 
--- two literals of the pair are equal in one frame of each run of k frames
+-- two literals of the pair are equal in one frame of each run of k frames or more
 abbrev pub LiteralsHoldInFrame : Pair → ℕ → ℕ → ℕ → ℕ → Type 0
-LiteralsHoldInFrame pair k t a b = (run : Path) → IsBaseRun pair k run → HoldsIn (row_at pair run t) (a, b)
+LiteralsHoldInFrame pair k t a b = (run : Path) → IsRunTo pair k run → HoldsIn (row_at pair run t) (a, b)

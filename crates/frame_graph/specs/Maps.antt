@@ -4,7 +4,7 @@ use Rattle.circ_model.specs.Meaning.{Pair, Path, bit, literal_value, places_of, 
 use Rattle.class_partition.specs.Classes.{Classes}
 use Rattle.and_graph.specs.declared.node.Node.{Node}
 use Rattle.and_graph.specs.Graphs.{Obeys}
-use Rattle.frame_graph.specs.Inductions.{Induction, IsBaseRun, IsStepPath}
+use Rattle.frame_graph.specs.Inductions.{Induction, IsRunTo, IsStepPath}
 use Rattle.frame_graph.specs.Leaves.{AreLeaves, Leaves, Reads}
 
 -- literals frame by frame, and in a frame place by place, for induction over so many frames
@@ -25,12 +25,12 @@ pub record Shows (pair : Pair) (literals : List ℕ) (path : Path) (v : ℕ → 
 pub record AreWithin (nodes : List Node) (literals : List ℕ) : Type 0 where
   pub at : (n : ℕ) → n < length literals → slice_index literals n / 2 < length nodes
 
--- frames from reset: on each run of the base each literal has the value of its place
+-- frames from reset: on each run of so many frames or more each literal has the value of its place
 pub record IsResetMap (nodes : List Node) (m : Mapping) : Type 0 where
   pub leaves : AreLeaves nodes m.leaves
   pub size : length m.literals ≡ m.depth * places_of m.leaves.pair
   pub within : AreWithin nodes m.literals
-  pub shows : (run : Path) (v : ℕ → Bool) → IsBaseRun m.leaves.pair m.depth run → Obeys nodes v → Reads m.leaves run v → Shows m.leaves.pair m.literals run v
+  pub shows : (run : Path) (v : ℕ → Bool) → IsRunTo m.leaves.pair m.depth run → Obeys nodes v → Reads m.leaves run v → Shows m.leaves.pair m.literals run v
 
 -- the induction for which a map with these classes stands
 abbrev pub induction_of : Mapping → Classes → Induction

@@ -16,7 +16,7 @@ ghost use Rattle.frame_graph.specs.Maps.{AreWithin, IsResetMap, IsStepMap, Shows
 ghost use Rattle.frame_graph.specs.Owed.{AreEqualWhere, IsOwed};
 
 use crate::frame::Frame;
-use crate::frames::{push_reset_frames, push_step_frames};
+use crate::frames::{push_reset_frame, push_reset_frames, push_step_frames};
 use crate::leaf::Leaf;
 use crate::literals::{class_literal, literal_from, needed_literals};
 use crate::own_literals::own_literal_again;
@@ -153,6 +153,27 @@ impl<'p> FrameMap<'p> {
             &mut self.literals,
             k,
         )?;
+        Ok(())
+    }
+
+    /// Maps one frame from reset more, after those that are mapped. After an `Err` the map is of no more use.
+    pub fn next_reset(&mut self, graph: &mut Graph) -> Result<(), AllocError>
+        requires map { IsResetMap graph.old self.old }
+        requires frame { self.old.depth < self.old.leaves.frames }
+        ensures on { GrowsTo graph.old graph.new }
+        ensures leaves { self.new.leaves ≡ self.old.leaves }
+        ensures depth { OnOk result (self.new.depth ≡ self.old.depth + 1) }
+        ensures map { OnOk result (IsResetMap graph.new self.new) }
+    {
+        push_reset_frame(
+            self.product,
+            self.frames,
+            self.first,
+            graph,
+            &mut self.literals,
+            self.depth,
+        )?;
+        self.depth += 1;
         Ok(())
     }
 

@@ -44,8 +44,8 @@ pub enum Found {
 /// Frames without a question, made ready for the solver once for many.
 #[derive(Drop)]
 pub struct Prepared<'p> {
-    frames: Unrolled<'p>,
-    ready: Ready,
+    pub(crate) frames: Unrolled<'p>,
+    pub(crate) ready: Ready,
 }
 
 impl<'p> Model for Prepared<'p> {
@@ -94,6 +94,13 @@ impl<'p> Prepared<'p> {
         ensures { IfOk result (λ p. p ≡ after_classes product.entry.now k classes.now) }
     {
         Prepared::new(alloc, Unrolled::step_frames(alloc, product, k, classes)?)
+    }
+
+    /// How many frames there are.
+    pub fn count(&self) -> u32
+        ensures { result ≡ self.now.frames }
+    {
+        self.frames.count
     }
 
     /// Whether two literals differ, in some of the frames first to last, on some path that the frames ask for: counted from 0,
@@ -177,7 +184,7 @@ impl<'p> Unrolled<'p> {
     }
 
     // The clauses of a question beside those of the frames.
-    fn beside(&self, alloc: Global, question: Question) -> Result<Cnf, AllocError>
+    pub(crate) fn beside(&self, alloc: Global, question: Question) -> Result<Cnf, AllocError>
         requires asked { AreFramesOf self.now.frames self.now.pair (Some question) }
         ensures vars { IfOk result (λ own. own.vars ≡ variables_of (asking self.now question)) }
         ensures clauses { IfOk result (λ own. own.clauses ≡ asked_clauses (places_of self.now.pair) (self.now.frames * places_of self.now.pair) (Some question)) }

@@ -16,7 +16,7 @@ use Rattle.induction_base.specs.Base.{HoldInRuns, BreaksIn, IsBase}
 use Rattle.induction_base.specs.Earliest.{HoldBelow, DifferOn, IsEarliest}
 
 -- two bits are equal, or one is the other's complement, and not both
-same_or_apart : (x y : Bool) → (x ≡ y) ⊎ (x ≡ not y)
+pub same_or_apart : (x y : Bool) → (x ≡ y) ⊎ (x ≡ not y)
 same_or_apart true true = inl refl
 same_or_apart true false = inr refl
 same_or_apart false true = inr refl

@@ -43,7 +43,7 @@ held_where_agree pair path t j sound is within lt agree =
 output_holds : (pair : Pair) (bound j : ℕ) → IsSoundPair pair → j < outputs_of pair → HoldBelow pair (output_pair pair j).0 (output_pair pair j).1 bound → OutputHolds pair bound j
 output_holds pair bound j sound lt hold run is t less short = agree_where_held pair run t j sound is.is_path short lt (hold run is t less short)
 
-output_differs : (pair : Pair) (run : Path) (t j : ℕ) → IsSoundPair pair → IsRun pair run → t < length run.inputs → j < outputs_of pair
+pub output_differs : (pair : Pair) (run : Path) (t j : ℕ) → IsSoundPair pair → IsRun pair run → t < length run.inputs → j < outputs_of pair
     → Differs pair run t (output_pair pair j).0 (output_pair pair j).1 → OutputAgrees pair run t j → ⊥
 output_differs pair run t j sound is short lt differs agree =
     not_both (value_in (row_at pair run t) (output_pair pair j).0) (value_in (row_at pair run t) (output_pair pair j).1) (held_where_agree pair run t j sound is.is_path short lt agree) differs

@@ -1,3 +1,6 @@
 pub mod Asking
 pub mod Least
 pub mod Windows
+pub mod Spelling
+pub mod Fixing
+pub mod Sites

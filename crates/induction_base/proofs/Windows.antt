@@ -12,4 +12,4 @@ hold_below_by_frames pair k a b below within hold run is t lt short =
     let w : IsWindow pair run 0 k (window pair run 0 k) = window_is pair run 0 k is.is_path in
     let same : row_at pair (window pair run 0 k) t ≡ row_at pair run t =
     subst (λ (n : ℕ). row_at pair (window pair run 0 k) t ≡ row_at pair run n) (zero_more t) (w.rows t (omega arith) (omega arith)) in
-    subst (λ (r : List Bool). value_in r a ≡ value_in r b) same (hold t lt (window pair run 0 k) (record { is_run = window_of_run pair run k is; rows = w.len }))
+    subst (λ (r : List Bool). value_in r a ≡ value_in r b) same (hold t lt (window pair run 0 k) (record { is_run = window_of_run pair run k is; rows = (let e = w.len in omega arith) }))

@@ -7,9 +7,14 @@
 mod base;
 mod difference;
 mod earliest;
+mod free_bits;
 mod hashed;
+mod laws;
+mod lexicographic;
 mod rows;
 mod search;
 
 pub use base::{Base, base_holds};
 pub use difference::{Diff, least_difference};
+pub use laws::one_least_run;
+pub use lexicographic::least_run;

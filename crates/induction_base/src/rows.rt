@@ -4,7 +4,8 @@ ghost use Rattle.std.specs.Prelude.{◌≡◌, ◌≤◌, IfOk, take, length};
 use bit_rows::{BitRow, Rows};
 use std::alloc::{AllocError, Global};
 
-fn copy_of(alloc: Global, row: &BitRow) -> Result<BitRow, AllocError>
+// The same bits.
+pub(crate) fn copy_of(alloc: Global, row: &BitRow) -> Result<BitRow, AllocError>
     ensures { IfOk result (λ r. r ≡ row.now) }
 {
     let mut copy = BitRow::with_len(alloc, row.len())?;

@@ -1,18 +1,16 @@
-use Rattle.std.proofs.Common.{true, refl, arith}
-use Rattle.circ_model.specs.Meaning.{places_of}
+use Rattle.std.proofs.Common.{true, refl}
 use Rattle.frame_graph.specs.Frames.{FrameOf}
 use Rattle.frame_graph.proofs.Going.{grows_twice, shows_run}
-use Rattle.frame_graph.proofs.Showing.{frame_after}
 use Rattle.frame_graph.proofs.frames.push_reset_frames.Goals as goal
 
 pub loop-number-preserved : goal.loop-number-preserved
 loop-number-preserved c =
     let was = c.loop-number.invariant in
-    let says = c.in_ok-push_own_places.ensures in
+    let says = c.push_reset_frame.ensures in
     let f : FrameOf = record { leaves = record { pair = c.args.product.now; frames = c.args.frames; first = c.args.first }; from_reset = true; number = c.loop-number.number } in
     record {
-      size = omega (arith, frame_after c.loop-number.number (places_of c.args.product.now), says.part, says.reached, c.len-places.ensures.places);
-      on = grows_twice c.args.graph.now c.loop-number.graph c.push_own_places.new.graph was.on says.on;
+      size = c.in_ok-push_reset_frame.ensures.size;
+      on = grows_twice c.args.graph.now c.loop-number.graph c.push_reset_frame.new.graph was.on says.on;
       within = says.within;
-      shows = shows_run f c.args.k c.loop-number.graph c.push_own_places.new.graph c.loop-number.literals.items c.push_own_places.new.literals.items refl c.loop-number-test.true says.on says.goes was.shows;
+      shows = shows_run f c.args.k c.loop-number.graph c.push_reset_frame.new.graph c.loop-number.literals.items c.push_reset_frame.new.literals.items refl c.loop-number-test.true says.on says.goes was.shows;
     }
