@@ -15,14 +15,17 @@ goes_on_same a = record { size = omega arith; same = λ j lt. refl }
 pub goes_on_twice : (a b c : List ℕ) → GoesOn a b → GoesOn b c → GoesOn a c
 goes_on_twice a b c first last = let s = first.size in let t = last.size in record { size = omega arith; same = λ j lt. last.same j (omega arith) ∙ first.same j lt }
 
+pub goes_on_to : (a b c : List ℕ) → GoesOn a b → c ≡ b → GoesOn a c
+goes_on_to a b c on same = subst (GoesOn a) (sym same) on
+
 shows_before : (members more : List ℕ) (v : ℕ → Bool) (a : List Bool) → GoesOn members more → Shows more v a → Shows members v a
 shows_before members more v a on shown = let s = on.size in record { bits = λ j lt. shown.bits j (omega arith) ∙ ap v (on.same j lt) }
 
-member_bit : (members : List ℕ) (v : ℕ → Bool) (a : List Bool) (j n : ℕ) → Shows members v a → j < length members → member_at members j ≡ n → bit a j ≡ v n
+pub member_bit : (members : List ℕ) (v : ℕ → Bool) (a : List Bool) (j n : ℕ) → Shows members v a → j < length members → member_at members j ≡ n → bit a j ≡ v n
 member_bit members v a j n shown lt at = shown.bits j lt ∙ ap v at
 
 -- a cone with more members and clauses, which hold where those before do
-cone_more : (nodes : List Node) (members more : List ℕ) (old new : Formula) → IsCone nodes members old → GoesOn members more → AreWithin (length nodes) more → new.vars ≡ length more
+pub cone_more : (nodes : List Node) (members more : List ℕ) (old new : Formula) → IsCone nodes members old → GoesOn members more → AreWithin (length nodes) more → new.vars ≡ length more
     → ((v : ℕ → Bool) (a : List Bool) → Obeys nodes v → Shows more v a → satisfies a old.clauses ≡ true → satisfies a new.clauses ≡ true) → IsCone nodes more new
 cone_more nodes members more old new is on all vars holds = record { vars = vars; within = all; hold = λ v a obeys shown. holds v a obeys shown (is.hold v a obeys (shows_before members more v a on shown)) }
 
@@ -54,7 +57,7 @@ cone_empty nodes members formula none low empty = record {
 pub cone_seeded : (nodes : List Node) (members more : List ℕ) (old new : Formula) → IsCone nodes members old → GoesOn members more → AreWithin (length nodes) more → new.vars ≡ length more → new.clauses ≡ old.clauses → IsCone nodes more new
 cone_seeded nodes members more old new is on all vars same = cone_more nodes members more old new is on all vars (λ v a obeys shown was. ap (satisfies a) same ∙ was)
 
-values_show : (members : List ℕ) (v : ℕ → Bool) → Shows members v (map v members)
+pub values_show : (members : List ℕ) (v : ℕ → Bool) → Shows members v (map v members)
 values_show members v = record { bits = λ j lt. get_or-map v members j 0 false lt }
 
 same_or_not : (x y : Bool) → (x ≡ y) ⊎ (x ≡ not y)

@@ -1,3 +1,5 @@
 pub mod Nodes
 pub mod ConeMembers
 pub mod Valuations
+pub mod Pure
+pub mod Learning

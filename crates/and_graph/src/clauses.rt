@@ -2,12 +2,13 @@
 ghost use Rattle.std.specs.Prelude.{◌≡◌, ◌<◌, ◌≤◌, ◌+◌, ◌&&◌, ℕ, List, Bool, true, false, not, OnOk, unsigned_abs};
 ghost use Rattle.circ_model.specs.Meaning.{bit, signed};
 ghost use Rattle.cnf_store.specs.Clauses.{AreLiterals, clause_true, literal_true, satisfies};
+ghost use Rattle.and_graph.specs.Lemmas.{Extends};
 
 use cnf_store::Cnf;
 use std::alloc::AllocError;
 
 // Variable j + 1, complemented where the sign is set.
-fn literal_of(j: u32, sign: bool) -> i32
+pub(crate) fn literal_of(j: u32, sign: bool) -> i32
     requires { j < 2147483647 }
     ensures variable { unsigned_abs result ≡ j + 1 }
     ensures value { (a : List Bool) → literal_true a result ≡ signed sign (bit a j) }
@@ -20,10 +21,12 @@ fn literal_of(j: u32, sign: bool) -> i32
 }
 
 // A clause.
+#[tactic(auto, using(crate::proofs::Learning::extends_push))]
 fn add_clause(cnf: &mut Cnf, clause: &[i32]) -> Result<(), AllocError>
     requires { AreLiterals cnf.old.vars clause.now }
     ensures vars { cnf.new.vars ≡ cnf.old.vars }
     ensures ok { OnOk result ((a : List Bool) → satisfies a cnf.old.clauses ≡ true → clause_true a clause.now ≡ true → satisfies a cnf.new.clauses ≡ true) }
+    ensures on { OnOk result (Extends cnf.old.clauses cnf.new.clauses) }
 {
     cnf.add(clause)
 }
@@ -35,17 +38,20 @@ fn add_either(cnf: &mut Cnf, x: (u32, bool), y: (u32, bool)) -> Result<(), Alloc
     requires few { cnf.old.vars ≤ 2147483647 }
     ensures vars { cnf.new.vars ≡ cnf.old.vars }
     ensures ok { OnOk result ((a : List Bool) → satisfies a cnf.old.clauses ≡ true → (signed x.1 (bit a x.0) ≡ false → signed y.1 (bit a y.0) ≡ true) → satisfies a cnf.new.clauses ≡ true) }
+    ensures on { OnOk result (Extends cnf.old.clauses cnf.new.clauses) }
 {
     add_clause(cnf, &[literal_of(x.0, x.1), literal_of(y.0, y.1)])
 }
 
 // Two literals differ.
+#[tactic(auto, using(crate::proofs::Learning::extends_twice))]
 pub(crate) fn add_apart(cnf: &mut Cnf, x: (u32, bool), y: (u32, bool)) -> Result<(), AllocError>
     requires x { x.0 < cnf.old.vars }
     requires y { y.0 < cnf.old.vars }
     requires few { cnf.old.vars ≤ 2147483647 }
     ensures vars { cnf.new.vars ≡ cnf.old.vars }
     ensures ok { OnOk result ((a : List Bool) → satisfies a cnf.old.clauses ≡ true → signed x.1 (bit a x.0) ≡ not (signed y.1 (bit a y.0)) → satisfies a cnf.new.clauses ≡ true) }
+    ensures on { OnOk result (Extends cnf.old.clauses cnf.new.clauses) }
 {
     add_either(cnf, x, y)?;
     add_either(cnf, (x.0, !x.1), (y.0, !y.1))

@@ -6,6 +6,7 @@ ghost use Rattle.and_graph.specs.Graphs.{AreEqual, GrowsTo, IsGraph, IsLeaf, Obe
 use crate::asking::Asker;
 use crate::canonical::{canonical_of, folded, turned};
 use crate::hashing::{Table, canonical_operands};
+use crate::lemmas::Lemmas;
 use crate::node::Node;
 use crate::pattern::Pattern;
 use circ_model::Lit;
@@ -17,18 +18,20 @@ use std::marker::Model;
 pub struct Graph {
     nodes: Vec<Node>,
     table: Table,
+    lemmas: Lemmas,
 }
 
 impl Model for Graph {
     ghost use Rattle.std.specs.Prelude.{◌<◌, List, length};
     ghost use Rattle.and_graph.specs.declared.node.Node.{Node};
     ghost use Rattle.and_graph.specs.Graphs.{IsGraph};
+    ghost use Rattle.and_graph.specs.Lemmas.{AreLemmas};
 
     ghost Value = { List Node };
 
     ghost view = { λ g. g.nodes.items };
 
-    ghost invariant = { λ g. IsGraph g.nodes.items };
+    ghost invariant = { λ g. IsGraph g.nodes.items × AreLemmas g.nodes.items g.lemmas.clauses };
 }
 
 /// How many nodes a graph has at most.
@@ -72,7 +75,12 @@ impl Graph {
             right: low,
             canonical: low,
         })?;
-        Ok(Graph { nodes, table })
+        let lemmas = Lemmas::new(alloc);
+        Ok(Graph {
+            nodes,
+            table,
+            lemmas,
+        })
     }
 
     /// How many nodes there are.
@@ -182,19 +190,21 @@ impl Graph {
     }
 
     /// Asks the solver whether two literals can differ, over the nodes on which they rest. None: they are equal under each
-    /// valuation, and may be merged. Else it has leaves under which they seem to differ.
+    /// valuation, and may be merged. Else it has leaves under which they seem to differ. What a refutation shows of the nodes on
+    /// the way, later ones begin with.
     pub fn difference(
-        &self,
+        &mut self,
         alloc: Global,
         asker: &mut Asker,
         a: Lit,
         b: Lit,
     ) -> Result<Option<Pattern>, AllocError>
-        requires left { a / 2 < length self.now }
-        requires right { b / 2 < length self.now }
-        ensures { IfOk result (λ found. IfNone found (AreEqual self.now a b)) }
+        requires left { a / 2 < length self.old }
+        requires right { b / 2 < length self.old }
+        ensures kept { self.new ≡ self.old }
+        ensures equal { IfOk result (λ found. IfNone found (AreEqual self.old a b)) }
     {
-        asker.difference(alloc, self.nodes.as_slice(), a, b)
+        asker.difference(alloc, self.nodes.as_slice(), &mut self.lemmas, a, b)
     }
 
     /// Merges two literals that are equal under each valuation: of the nodes that they stand for by now, the later one into the

@@ -15,8 +15,10 @@ mod frontier;
 mod graph;
 mod hashing;
 mod laws;
+mod lemmas;
 mod node;
 mod pattern;
+mod recall;
 
 pub use asking::Asker;
 pub use graph::Graph;
