@@ -61,21 +61,38 @@ fn prove_place(
     prove_pair(alloc, prover, Needed { rep, member }, next)
 }
 
-// A round: proves all needed pairs of a version, and splits a copy of it. Answers the copy, and how many classes it has more.
-fn round<'p>(alloc: Global, version: Version<'p>) -> Result<(Version<'p>, u32), AllocError>
-    ensures product { IfOk result (λ r. r.0.pair ≡ version.entry.pair) }
-    ensures k { IfOk result (λ r. r.0.k ≡ version.entry.k) }
-    ensures count { IfOk result (λ r. class_count (places_of version.entry.pair) r.0.classes ≡ class_count (places_of version.entry.pair) version.entry.classes + r.1) }
-    ensures none { IfOk result (λ r. r.1 ≡ 0 → AreOfGreatest version.entry.pair version.entry.k r.0.classes) }
+// Proves all needed pairs of the prover's version, and splits its copy. Answers how many classes that adds.
+fn prove_all(
+    alloc: Global,
+    prover: &mut Prover<'_, '_>,
+    next: &mut Version<'_>,
+) -> Result<u32, AllocError>
+    requires copy { next.old ≡ prover.old }
+    ensures product { next.new.pair ≡ prover.old.pair }
+    ensures k { next.new.k ≡ prover.old.k }
+    ensures count { IfOk result (λ added. class_count (places_of prover.old.pair) next.new.classes ≡ class_count (places_of prover.old.pair) prover.old.classes + added) }
+    ensures none { IfOk result (λ added. added ≡ 0 → AreOfGreatest prover.old.pair prover.old.k next.new.classes) }
 {
-    let mut next = version.copy(alloc)?;
-    let mut prover = Prover::new(alloc, &version)?;
     let n = next.product().len();
     let mut added: u32 = 0;
     for member in 0..n {
-        added += prove_place(alloc, &mut prover, member, &mut next)?;
+        added += prove_place(alloc, prover, member, next)?;
     }
-    Ok((next, added))
+    Ok(added)
+}
+
+// A round: the same of a version that is lent. Answers the copy, and how many classes it has more.
+fn round<'p>(alloc: Global, version: &Version<'p>) -> Result<(Version<'p>, u32), AllocError>
+    ensures product { IfOk result (λ r. r.0.pair ≡ version.now.pair) }
+    ensures k { IfOk result (λ r. r.0.k ≡ version.now.k) }
+    ensures count { IfOk result (λ r. class_count (places_of version.now.pair) r.0.classes ≡ class_count (places_of version.now.pair) version.now.classes + r.1) }
+    ensures none { IfOk result (λ r. r.1 ≡ 0 → AreOfGreatest version.now.pair version.now.k r.0.classes) }
+{
+    let mut next = version.copy(alloc)?;
+    let mut prover = Prover::new(alloc, version)?;
+    let added = prove_all(alloc, &mut prover, &mut next);
+    drop(prover);
+    Ok((next, added?))
 }
 
 /// The classes of the greatest correspondence for induction over k frames.
@@ -92,7 +109,7 @@ pub fn greatest_classes<'p>(
 {
     let mut version = Version::opening(alloc, product, k)?;
     loop {
-        let (next, added) = round(alloc, version)?;
+        let (next, added) = round(alloc, &version)?;
         version = next;
         if added == 0 {
             return Ok(version);
