@@ -1,0 +1,4 @@
+pub mod Cuts
+pub mod Texts
+pub mod Faults
+pub mod Found
