@@ -1,6 +1,5 @@
 pub mod Asking
 pub mod Least
-pub mod Windows
 pub mod Spelling
 pub mod Fixing
 pub mod Sites

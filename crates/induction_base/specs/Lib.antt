@@ -1,6 +1,6 @@
 pub mod Base
-pub mod Earliest
 pub mod Least
 pub mod Spelling
 pub mod LeastRun
 pub mod Fixing
+pub mod Search

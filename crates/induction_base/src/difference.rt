@@ -1,11 +1,19 @@
-//! The least difference: output by output, each asked only for the frames before the least that differs so far, and the solver
-//! only where a hashed graph of the frames leaves it open.
-ghost use Rattle.std.specs.Prelude.{◌<◌, ◌≤◌, IfOk};
+//! The least difference, frame by frame: a frame is mapped onto a hashed graph when it is reached, and its outputs are asked for one
+//! after another. All frames before it agree on every run, and so do the outputs before one of its own, so the first run on which an
+//! output differs shows the least difference.
+ghost use Rattle.std.specs.Prelude.{◌≡◌, ◌<◌, ◌≤◌, ◌+◌, ◌/◌, IfOk, OnOk};
 ghost use Rattle.circ_model.specs.Meaning.{outputs_of};
-ghost use Rattle.induction_base.specs.Least.{IsLeastOrNone, IsLeastOf};
+ghost use Rattle.circ_model.specs.Verdict.{AgreeBelow};
+ghost use Rattle.frame_graph.specs.Maps.{IsResetMap};
+ghost use Rattle.induction_base.specs.Least.{IsLeastOrNone};
+ghost use Rattle.induction_base.specs.Search.{IsApartOrNone, IsLeastIn};
+ghost use Rattle.product_machine.specs.States.{output_pair};
 
-use crate::rows::first_rows;
-use crate::search::Search;
+use crate::pattern_runs::run_apart;
+use crate::whole_frames::WholeFrames;
+use and_graph::{Asker, Graph};
+use circ_model::Lit;
+use frame_graph::FrameMap;
 use product_machine::{Path, Product};
 use std::alloc::{AllocError, Global};
 
@@ -28,42 +36,100 @@ pub fn least_difference(
     requires few { k ≤ 64 }
     ensures { IfOk result (IsLeastOrNone product.now k) }
 {
-    match search(alloc, product, k)? {
+    let mut graph = Graph::new(alloc, 1023)?;
+    let mut asker = Asker::new(alloc)?;
+    let mut whole = WholeFrames::new(product);
+    let found = search(alloc, product, &mut graph, &mut asker, &mut whole, k);
+    drop(whole);
+    drop(asker);
+    drop(graph);
+    found
+}
+
+// Whether an output differs in the last frame that is mapped: a run that shows it, or none.
+fn apart(
+    alloc: Global,
+    product: &Product,
+    map: &FrameMap<'_>,
+    graph: &mut Graph,
+    asker: &mut Asker,
+    whole: &mut WholeFrames<'_>,
+    t: u32,
+    j: u32,
+) -> Result<Option<Path>, AllocError>
+    requires output { j < outputs_of product.now }
+    requires few { t < 64 }
+    requires pair { map.now.leaves.pair ≡ product.now }
+    requires depth { map.now.depth ≡ t + 1 }
+    requires map { IsResetMap graph.old map.now }
+    requires whole { whole.old ≡ product.now }
+    ensures map { IsResetMap graph.new map.now }
+    ensures whole { whole.new ≡ product.now }
+    ensures found { IfOk result (IsApartOrNone product.now t (output_pair product.now j).0 (output_pair product.now j).1) }
+{
+    let _cells = product.cells();
+    let (a, b) = product.output(j);
+    match map.settle_literals(alloc, graph, asker, t, a, b)? {
         None => Ok(None),
-        Some(found) => {
-            let rows = first_rows(alloc, &found.run.inputs, found.frame as u64 + 1)?;
-            Ok(Some(Diff {
-                frame: found.frame,
-                output: found.output,
-                run: Path {
-                    start: found.run.start,
-                    inputs: rows,
-                },
-            }))
-        }
+        Some(pattern) => match run_apart(alloc, product, map, &pattern, t, a, b)? {
+            Some(run) => Ok(Some(run)),
+            None => whole.find(alloc, a, b, t),
+        },
     }
 }
 
-// The least difference below k, with a run of k rows.
-fn search(alloc: Global, product: &Product, k: u32) -> Result<Option<Diff>, AllocError>
-    requires some { 0 < k }
-    requires few { k ≤ 64 }
-    ensures { IfOk result (IsLeastOf product.now k (outputs_of product.now)) }
+// The least output that differs in the last frame that is mapped, with a run that shows it.
+fn in_frame(
+    alloc: Global,
+    product: &Product,
+    map: &FrameMap<'_>,
+    graph: &mut Graph,
+    asker: &mut Asker,
+    whole: &mut WholeFrames<'_>,
+    t: u32,
+) -> Result<Option<Diff>, AllocError>
+    requires few { t < 64 }
+    requires pair { map.now.leaves.pair ≡ product.now }
+    requires depth { map.now.depth ≡ t + 1 }
+    requires map { IsResetMap graph.old map.now }
+    requires whole { whole.old ≡ product.now }
+    ensures map { IsResetMap graph.new map.now }
+    ensures whole { whole.new ≡ product.now }
+    ensures found { IfOk result (IsLeastIn product.now t) }
 {
-    let mut frames = Search::new(alloc, product, k)?;
     let _cells = product.cells();
-    let mut bound = k;
-    let mut best: Option<Diff> = None;
     for j in 0..product.outputs() {
-        let (left, right) = product.output(j);
-        if let Some(seen) = frames.earliest(alloc, left, right, bound)? {
-            bound = seen.frame;
-            best = Some(Diff {
-                frame: seen.frame,
+        if let Some(run) = apart(alloc, product, map, graph, asker, whole, t, j)? {
+            return Ok(Some(Diff {
+                frame: t,
                 output: j,
-                run: seen.path,
-            });
+                run,
+            }));
         }
     }
-    Ok(best)
+    Ok(None)
+}
+
+// The least difference below k, frame by frame.
+fn search(
+    alloc: Global,
+    product: &Product,
+    graph: &mut Graph,
+    asker: &mut Asker,
+    whole: &mut WholeFrames<'_>,
+    k: u32,
+) -> Result<Option<Diff>, AllocError>
+    requires few { k ≤ 64 }
+    requires whole { whole.old ≡ product.now }
+    ensures { IfOk result (IsLeastOrNone product.now k) }
+{
+    let mut map = FrameMap::new(alloc, product, graph, k)?;
+    map.map_reset(graph, 0)?;
+    for t in 0..k {
+        map.next_reset(graph)?;
+        if let Some(found) = in_frame(alloc, product, &map, graph, asker, whole, t)? {
+            return Ok(Some(found));
+        }
+    }
+    Ok(None)
 }

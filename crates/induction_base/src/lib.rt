@@ -1,18 +1,17 @@
 //! What the frames from reset say: the least difference of the outputs below a depth, with a run that shows it, and the base
 //! of an induction over k frames. Both are questions of bounded model checking (Biere, Cimatti, Clarke, Zhu, TACAS 1999) over
-//! frames that are unrolled once; the base is that of k-induction (Sheeran, Singh, Stålmarck, FMCAD 2000). Of the outputs those
-//! that a hashed graph of the frames shows equal need no such question (Kuehlmann and Krohm, DAC 1997).
+//! frames; the base is that of k-induction (Sheeran, Singh, Stålmarck, FMCAD 2000). The search for a difference goes frame by frame
+//! over one hashed graph, into which outputs that are found equal are merged (Kuehlmann and Krohm, DAC 1997).
 #![tactic(auto)]
 
 mod base;
 mod difference;
-mod earliest;
 mod free_bits;
-mod hashed;
 mod laws;
 mod lexicographic;
+mod pattern_runs;
 mod rows;
-mod search;
+mod whole_frames;
 
 pub use base::{Base, base_holds};
 pub use difference::{Diff, least_difference};

@@ -1,11 +1,14 @@
 use Rattle.std.proofs.Common.{◌≡◌}
-use Rattle.frame_unroll.specs.Unrolled.{from_reset}
-use Rattle.induction_base.specs.Least.{IsLeastOf}
-use Rattle.induction_base.proofs.Least.{IsBound}
+use Rattle.circ_model.specs.Verdict.{AgreeBelow}
+use Rattle.frame_graph.specs.Maps.{IsResetMap}
 use Rattle.induction_base.proofs.difference.search.Given as goal
 
-abbrev pub invariant-loop-j : goal.invariant-loop-j
-invariant-loop-j l = record {
-  frames : l.frames ≡ from_reset l.product l.k;
-  least : IsBound l.k l.bound l.best × IsLeastOf l.product l.k l.j l.best;
+abbrev pub invariant-loop-t : goal.invariant-loop-t
+invariant-loop-t l = record {
+  pair : l.map.leaves.pair ≡ l.product;
+  frames : l.map.leaves.frames ≡ l.k;
+  depth : l.map.depth ≡ l.t;
+  map : IsResetMap l.graph l.map;
+  whole : l.whole ≡ l.product;
+  agree : AgreeBelow l.product l.t;
 }
