@@ -1,4 +1,4 @@
-use Rattle.std.proofs.Common.{◌≡◌, ◌∷◌, [], ℕ, Bool, IfNone}
+use Rattle.std.proofs.Common.{◌≡◌, ◌∷◌, [], ℕ, Bool, IfNone, Option, subst, sym}
 use Rattle.std.proofs.lemmas.Result.{IfOk-weaker}
 use Rattle.circ_model.specs.Meaning.{literal_value}
 use Rattle.and_graph.specs.Graphs.{AreEqual, Obeys, product_of}
@@ -54,8 +54,9 @@ returns-then-same-clause-later c =
 
 pub returns-clause-later : goal.returns-clause-later
 returns-clause-later c =
-    later_twice c.args.graph.now c.assume.new.graph c.and-2.new.self c.in_ok-assumed.ensures.later
-    (later_twice c.assume.new.graph c.and.new.self c.and-2.new.self (grown_is_later c.assume.new.graph c.and.new.self c.in_ok-a.ensures.on) (grown_is_later c.and.new.self c.and-2.new.self c.and-2.ensures.on))
+    subst (IsLater c.args.graph.now) (sym c.difference.ensures.kept)
+    (later_twice c.args.graph.now c.assume.new.graph c.and-2.new.self c.in_ok-assumed.ensures.later
+    (later_twice c.assume.new.graph c.and.new.self c.and-2.new.self (grown_is_later c.assume.new.graph c.and.new.self c.in_ok-a.ensures.on) (grown_is_later c.and.new.self c.and-2.new.self c.and-2.ensures.on)))
 
 pub returns-then-same-clause-passes : goal.returns-then-same-clause-passes
 returns-then-same-clause-passes c = same_passes c (c.same.ensures c.if-same.true)
@@ -63,4 +64,4 @@ returns-then-same-clause-passes c = same_passes c (c.same.ensures c.if-same.true
 pub returns-clause-passes : goal.returns-clause-passes
 returns-clause-passes c =
     IfOk-weaker c.difference.result (λ found. IfNone found (AreEqual c.and-2.new.self c.in_ok-a.a c.in_ok-b.b)) (λ found. IfNone found (StepPasses (induction_of c.args.self.now c.args.classes.now) c.args.member))
-    (λ found. none_weaker _ _ _ (asked_passes c) found) c.difference.ensures
+    (λ found. none_weaker _ _ _ (asked_passes c) found) c.difference.ensures.equal
