@@ -17,14 +17,15 @@ use Rattle.sim_words.specs.Stimulus.{after_words}
 unfoldable pub seeded : Lcg
 seeded = pcg64_of_seed (pcg32_seed 32 1)
 
--- its words: first one for each free latch, in the order of the state, then for each frame one for each input
+-- its words: first one for each free latch, in the order of the state and in a tied pair for the left netlist alone, then for each
+-- frame one for each input
 abbrev pub free_words : Pair → List ℕ
 free_words pair = first_words pcg64 (free_count pair) seeded
 
 abbrev pub input_words : Pair → ℕ → List ℕ
 input_words pair t = first_words pcg64 (length pair.left.inputs) (after_words (free_count pair + t * length pair.left.inputs) seeded)
 
--- what a latch starts with in run b: a free one with bit b of its word
+-- what a latch starts with in run b: a free one with bit b of its word, which in a tied pair is its partner's
 abbrev pub start_in : Pair → ℕ → ℕ → Bool
 start_in pair b i = start_bit (slice_index_or (resets pair) i Free) (bit (lane b (free_words pair)) (free_before pair i))
 

@@ -10,7 +10,7 @@ use std::alloc::{AllocError, Global};
 
 impl<'p> Version<'p> {
     /// The first version, split by frames 0 to 15 of 64 runs, whose free latches and inputs are the words of a stimulus with
-    /// seed 1: first a word for each free latch, then for each frame a word for each input. Places are together exactly where
+    /// seed 1: first a word for each free latch, in a tied pair for the left netlist's alone, then for each frame a word for each input. Places are together exactly where
     /// they are equal, each with its phase, in all these frames; the number counts the frames that added classes.
     pub fn opening(alloc: Global, product: &'p Product, k: u32) -> Result<Version<'p>, AllocError>
         requires some { 0 < k }
