@@ -1,7 +1,7 @@
 -- A line of a derivation is true wherever the clauses are that its hints name, whatever the other clauses are.
-use Rattle.std.proofs.Common.{◌≡◌, ◌∙◌, ◌≤◌, ◌<◌, ◌-◌, ◌+◌, ℕ, zero, suc, ℤ, neg_ℤ, Bool, true, false, List, [], ◌∷◌, ◌++◌, length, get_or, map, take, refl, sym, ap, subst, arith, append_assoc, ◌⊎◌, inl, inr, ⊎_elim, ◌||◌}
+use Rattle.std.proofs.Common.{◌≡◌, ◌∙◌, ◌<◌, ◌-◌, ◌+◌, ℕ, zero, suc, ℤ, neg_ℤ, Bool, true, List, [], ◌∷◌, ◌++◌, length, get_or, map, take, sym, ap, subst, arith, append_assoc, ◌⊎◌, inl, inr, ⊎_elim, ◌||◌}
 use Rattle.std.specs.List.{All, Contains}
-use Rattle.std.proofs.lemmas.List.{append-nil, get_or-take, get_or-map, get_or_append_left, get_or-append_right}
+use Rattle.std.proofs.lemmas.List.{append-nil, get_or-map, get_or-append_right}
 use Rattle.cnf_store.specs.Clauses.{clause_true, AreLiterals}
 use Rattle.sat_log.specs.Derivations.{Line, line_at, clause_at, clauses_of, Refutes, Follows, AllFollow}
 use Rattle.sat_log.proofs.Lists.{neg_neg, contains_cases, contains_tail, contains_neg_back}

@@ -1,4 +1,4 @@
-use Rattle.std.proofs.Common.{◌∙◌, ℤ, pos, get_or, ap, arith, rules, w32}
+use Rattle.std.proofs.Common.{◌∙◌, ℤ, pos, get_or, ap, rules, w32}
 use Rattle.std.proofs.lemmas.Int.{ints, to_z-of_z}
 use Rattle.std.proofs.lemmas.List.{get_or_default}
 use Rattle.cnf_store.specs.Clauses.{literal_true}
