@@ -76,8 +76,17 @@ fn tied_latches_start_with_one_word(rt: HostRuntime) -> Result<(), Fail> {
         Ok(product) => {
             let start = 0x00ff_0000_1234_5678u64;
             let mut sim = SimState::new(alloc, &product)?;
-            assert!(rt; product.is_tied() && sim.free_latches() == 1 && product.inputs() == 0 && product.len() == 3);
-            if sim.free_latches() == 1 && product.inputs() == 0 && product.latches() == 2 && product.len() == 3 {
+            assert!(rt;
+                product.is_tied()
+                    && sim.free_latches() == 1
+                    && product.inputs() == 0
+                    && product.len() == 3
+            );
+            if sim.free_latches() == 1
+                && product.inputs() == 0
+                && product.latches() == 2
+                && product.len() == 3
+            {
                 assert!(rt; product.tie(0).is_none());
                 assert_eq!(rt; product.tie(1).unwrap_or(7), 0);
                 sim.reset(&[start]);
