@@ -4,3 +4,5 @@
 
 #[cfg(test)]
 mod lists;
+#[cfg(test)]
+mod pools;

@@ -1,0 +1,4 @@
+mod Gathered
+mod LeftOut
+mod Slotted
+mod Verdicts

@@ -1,0 +1,4 @@
+pub mod Unpaired
+pub mod Outcomes
+pub mod Claims
+pub mod Solutions
