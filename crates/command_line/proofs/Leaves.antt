@@ -87,10 +87,10 @@ check_right rows r =
     let left = given_there (codes "LEFT") rows (is_there (codes "LEFT") rows r.required.0) in
     let right = given_there (codes "RIGHT") rows (is_there (codes "RIGHT") rows r.required.1.0) in
     let depth = r.defaults (codes "k") (inr (inr (inl (refl, omega arith)))) in
-    let workers = r.defaults (codes "j") (inr (inr (inr (inl (refl, omega arith))))) in
+    let workers = r.defaults (codes "j") (inr (inr (inr (inr (inl (refl, omega arith)))))) in
     check_some (first_of (codes "LEFT") rows) (first_of (codes "RIGHT") rows) (number_of (codes "k") 1 most_depth rows) (number_of (codes "j") 1 most_workers rows) _
     (text_there (sub 0).rules (codes "LEFT") rows left r.read) (text_there (sub 0).rules (codes "RIGHT") rows right r.read)
-    (number_there (sub 0).rules (codes "k") rows (rule 0 2) 1 most_depth refl refl depth r.read) (number_there (sub 0).rules (codes "j") rows (rule 0 3) 1 most_workers refl refl workers r.read)
+    (number_there (sub 0).rules (codes "k") rows (rule 0 2) 1 most_depth refl refl depth r.read) (number_there (sub 0).rules (codes "j") rows (rule 0 4) 1 most_workers refl refl workers r.read)
 
 replay_right : (rows : List Row) → IsRight (sub 1) rows → is_some (matched (Some ((sub 1).name, rows))) ≡ true
 unfolding sec_app check_app replay_app verify_app demo_app
