@@ -543,7 +543,7 @@ fn seven_workers_tell_the_same_each_time(rt: HostRuntime) -> Result<(), Fail> {
 fn words_that_are_no_command(rt: HostRuntime) -> Result<(), Fail> {
     let alloc = rt.alloc();
     let usage =
-        "usage: sec check LEFT RIGHT [-k K] [-j J] [--classes] [--stats] [--trace FILE] [--cert FILE]\n       sec replay LEFT RIGHT TRACE\n       sec verify LEFT RIGHT CERT\n       sec demo N [-k K] [-j J]\n";
+        "usage: sec check LEFT RIGHT [-k K] [-d D] [-j J] [--classes] [--stats] [--trace FILE] [--cert FILE]\n       sec replay LEFT RIGHT TRACE\n       sec verify LEFT RIGHT CERT\n       sec demo N [-k K] [-j J]\n";
     for words in [
         "sec",
         "sec help",
@@ -763,6 +763,56 @@ fn differences_are_shown_by_some_run(rt: HostRuntime) -> Result<(), Fail> {
         )
     };
     assert!(rt; answers_so(&rt, alloc, &short)?);
+    Ok(())
+}
+
+#[test]
+fn differences_are_sought_deeper_than_the_induction(rt: HostRuntime) -> Result<(), Fail> {
+    let alloc = rt.alloc();
+    let shallow = "undecided k=1 signals=12 classes=9 unpaired=0\n";
+    let at_one = "different k=1 frame=1 output=0\n1\nb0\n0\n\n\n.\n";
+    let at_k = "different k=2 frame=1 output=0\n1\nb0\n0\n\n\n.\n";
+    let ring = "undecided k=1 signals=5 classes=5 unpaired=0\n";
+    let rows = [
+        case("sec check left right -d 2", TOGGLE, LOW, 1, at_one, ""),
+        case("sec check left right -d 2 -j 3", TOGGLE, LOW, 1, at_one, ""),
+        case("sec check -k 2 left right -d 1", TOGGLE, LOW, 1, at_k, ""),
+        case(
+            "sec check -k 2 left right -d 1 -j 3",
+            TOGGLE,
+            LOW,
+            1,
+            at_k,
+            "",
+        ),
+        case("sec check left right -d 2", DELAY, MASKED, 2, shallow, ""),
+        case(
+            "sec check left right -d 2 -j 3",
+            DELAY,
+            MASKED,
+            2,
+            shallow,
+            "",
+        ),
+        case("sec check left right -d 64", LOW, RING, 2, ring, ""),
+        case("sec check left right -d 64 -j 3", LOW, RING, 2, ring, ""),
+    ];
+    for row in rows.iter() {
+        assert!(rt; answers_so(&rt, alloc, row)?);
+    }
+    // The first input is 0; the others are free.
+    let four = [
+        "different k=1 frame=2 output=0\n1\nb0\n0000\n0\n0\n0\n.\n",
+        "different k=1 frame=2 output=0\n1\nb0\n0000\n0\n0\n1\n.\n",
+        "different k=1 frame=2 output=0\n1\nb0\n0000\n0\n1\n0\n.\n",
+        "different k=1 frame=2 output=0\n1\nb0\n0000\n0\n1\n1\n.\n",
+    ];
+    for words in [
+        "sec check left right -d 3",
+        "sec check left right -d 3 -j 3",
+    ] {
+        assert!(rt; differs_as(&rt, alloc, words, DELAY, MASKED, &four)?);
+    }
     Ok(())
 }
 

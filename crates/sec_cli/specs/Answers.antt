@@ -71,7 +71,7 @@ IsVerdictText pair c (Different t j) text file journal = (run : Path) × ShowsDi
 
 -- the verdict's status, text, file and journal
 abbrev pub IsVerdictAnswer : Pair → CheckAsked → ℕ → List ℕ → List ℕ → Option Written → Type 0
-IsVerdictAnswer pair c status text file journal = (v : Verdict) × IsVerdict pair c.k c.k v × (status ≡ status_of_verdict v) × IsVerdictText pair c v text file journal
+IsVerdictAnswer pair c status text file journal = (v : Verdict) × IsVerdict pair c.k c.depth v × (status ≡ status_of_verdict v) × IsVerdictText pair c v text file journal
 
 abbrev pub IsCheckAnswer : Pair → CheckAsked → Answer → Type 0
 IsCheckAnswer pair c answer = IsVerdictAnswer pair c answer.status answer.text.items answer.file.items answer.journal
@@ -91,9 +91,9 @@ IsReplayAnswer pair bytes answer = (trace : Trace) × (trace_of pair (lines_of b
 abbrev pub IsVerifyAnswer : Pair → List ℕ → Answer → Type 0
 IsVerifyAnswer pair bytes answer = IsSupported pair bytes × (answer.status ≡ 0) × (answer.text.items ≡ verified_line)
 
--- a demo is checked as two files are, without class lines, numbers of entries and stored files
+-- a demo is checked as two files are, with a search for a difference in the first k frames, without class lines, numbers of entries and stored files
 abbrev pub check_of_demo : Demo → CheckAsked
-check_of_demo d = record { left = []; right = []; k = d.k; workers = d.workers; classes = false; stats = false; trace = None; cert = None }
+check_of_demo d = record { left = []; right = []; k = d.k; depth = d.k; workers = d.workers; classes = false; stats = false; trace = None; cert = None }
 
 -- the line of the demo, and then the verdict of its pair
 abbrev pub IsDemoAnswer : Demo → Answer → Type 0

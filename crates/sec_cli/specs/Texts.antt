@@ -89,4 +89,4 @@ abbrev pub memory_text : List ℕ
 memory_text = codes "sec: out of memory\n"
 
 abbrev pub usage_text : List ℕ
-usage_text = codes "usage: sec check LEFT RIGHT [-k K] [-j J] [--classes] [--stats] [--trace FILE] [--cert FILE]\n       sec replay LEFT RIGHT TRACE\n       sec verify LEFT RIGHT CERT\n       sec demo N [-k K] [-j J]\n"
+usage_text = codes "usage: sec check LEFT RIGHT [-k K] [-d D] [-j J] [--classes] [--stats] [--trace FILE] [--cert FILE]\n       sec replay LEFT RIGHT TRACE\n       sec verify LEFT RIGHT CERT\n       sec demo N [-k K] [-j J]\n"

@@ -5,7 +5,7 @@ ghost use Rattle.circ_model.specs.Verdict.{AgreeBelow};
 ghost use Rattle.class_partition.specs.Classes.{ArePartition, AreOfGreatest};
 ghost use Rattle.class_partition.specs.Laws.{PairOutput};
 ghost use Rattle.induction_base.specs.Least.{IsShown};
-ghost use Rattle.command_line.specs.Asked.{check_asked};
+ghost use Rattle.command_line.specs.Asked.{check_asked, IsCheckWithin};
 ghost use Rattle.sec_cli.specs.Outputs.{AreLeftOut};
 ghost use Rattle.sec_cli.specs.Answers.{AreClassLines, IsCertOf, IsCheckAnswer, IsJournalOf, IsRefinedText, is_refined, stats_lines};
 
@@ -106,9 +106,8 @@ fn answer_by(
     requires partition { ArePartition (places_of product.now) classes.now }
     requires greatest { AreOfGreatest product.now c.now.k classes.now }
     requires journal { IsJournalOf product.now (check_asked c.now) journal.entries }
-    requires agree { AgreeBelow product.now c.now.k }
-    requires some { 0 < c.now.k }
-    requires few { c.now.k ≤ 16 }
+    requires agree { AgreeBelow product.now c.now.depth }
+    requires within { IsCheckWithin (check_asked c.now) }
     ensures answer { IfOk result (IsCheckAnswer product.now (check_asked c.now)) }
     ensures status { IfOk result (λ a. a.status ≤ 2) }
     ensures journal { IfOk result (λ a. is_some a.journal ≡ is_refined a.status) }
@@ -187,7 +186,7 @@ fn undecided(
     requires partition { ArePartition (places_of product.now) classes.now }
     requires greatest { AreOfGreatest product.now c.now.k classes.now }
     requires journal { IsJournalOf product.now (check_asked c.now) journal.entries }
-    requires agree { AgreeBelow product.now c.now.k }
+    requires agree { AgreeBelow product.now c.now.depth }
     requires some { outputs.now ≢ [] }
     requires left_out { AreLeftOut product.now classes.now (outputs_of product.now) outputs.now }
     ensures answer { IfOk result (IsCheckAnswer product.now (check_asked c.now)) }
@@ -209,7 +208,7 @@ fn undecided(
 
 // A run differs.
 fn different(alloc: Global, product: &Product, c: &Check, diff: &Diff) -> Result<Answer, AllocError>
-    requires shown { IsShown product.now c.now.k diff.now }
+    requires shown { IsShown product.now c.now.depth diff.now }
     ensures answer { IfOk result (IsCheckAnswer product.now (check_asked c.now)) }
     ensures status { IfOk result (λ a. a.status ≤ 2) }
     ensures journal { IfOk result (λ a. is_some a.journal ≡ is_refined a.status) }
@@ -234,15 +233,13 @@ pub(crate) fn check_pair<R: Threads + Wait + Sync, G: Gate>(
     c: &Check,
     gate: &G,
 ) -> Result<Answer, AllocError>
-    requires some { 0 < c.now.k }
-    requires few { c.now.k ≤ 16 }
-    requires workers { (0 < c.now.workers) × (c.now.workers ≤ 64) }
+    requires { IsCheckWithin (check_asked c.now) }
     ensures answer { IfOk result (IsCheckAnswer product.now (check_asked c.now)) }
     ensures status { IfOk result (λ a. a.status ≤ 2) }
     ensures journal { IfOk result (λ a. is_some a.journal ≡ is_refined a.status) }
 {
     let _sound = product.cells();
-    if let Some(diff) = least_difference(alloc, product, c.k)? {
+    if let Some(diff) = least_difference(alloc, product, c.depth)? {
         return different(alloc, product, c, &diff);
     }
     let Refined {

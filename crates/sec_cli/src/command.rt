@@ -1,7 +1,7 @@
 // One run: its words, its files, and what is written of it.
 ghost use Rattle.std.specs.Prelude.{◌≡◌, ◌≢◌, ◌≤◌, ◌<◌, ◌⊎◌, ℕ, List, [], ◌∷◌, IsTrue, IsSomeAnd, MatchBool, None, is_some, IfOk};
 ghost use Rattle.sec_base.specs.Faults.{Rose, appended};
-ghost use Rattle.command_line.specs.Asked.{asked_of, check_asked, IsDemoWithin, IsWithin};
+ghost use Rattle.command_line.specs.Asked.{asked_of, check_asked, IsCheckWithin, IsDemoWithin, IsWithin};
 ghost use Rattle.command_line.specs.Meant.{meant, AreNoCommand};
 ghost use Rattle.command_line.specs.Plain.{texts};
 ghost use Rattle.sec_cli.specs.Answers.{is_refined};
@@ -36,7 +36,7 @@ pub struct Report {
 }
 
 const USAGE: &str =
-    "usage: sec check LEFT RIGHT [-k K] [-j J] [--classes] [--stats] [--trace FILE] [--cert FILE]\n       sec replay LEFT RIGHT TRACE\n       sec verify LEFT RIGHT CERT\n       sec demo N [-k K] [-j J]\n";
+    "usage: sec check LEFT RIGHT [-k K] [-d D] [-j J] [--classes] [--stats] [--trace FILE] [--cert FILE]\n       sec replay LEFT RIGHT TRACE\n       sec verify LEFT RIGHT CERT\n       sec demo N [-k K] [-j J]\n";
 
 // The answer of a check of two files.
 fn check_files<R: Threads + Wait + Sync, S: Shelf, G: Gate>(
@@ -48,9 +48,7 @@ fn check_files<R: Threads + Wait + Sync, S: Shelf, G: Gate>(
     c: &Check,
     gate: &G,
 ) -> Result<Answer, Refusal>
-    requires some { 0 < c.now.k }
-    requires few { c.now.k ≤ 16 }
-    requires workers { (0 < c.now.workers) × (c.now.workers ≤ 64) }
+    requires { IsCheckWithin (check_asked c.now) }
     ensures ending { IsTrue S.tells → IsCheckEnding (S.file shelf.old left.now) (S.file shelf.old right.now) (check_asked c.now) result }
     ensures status { IfOk result (λ a. a.status ≤ 2) }
     ensures journal { IfOk result (λ a. is_some a.journal ≡ is_refined a.status) }
@@ -228,10 +226,10 @@ fn perform<R: Threads + Wait + Sync, S: Shelf, O: Sink, E: Sink, G: Gate>(
     }
 }
 
-/// One run of the program over these words, of which the first is its own name: `check LEFT RIGHT [-k K] [-j J] [--classes]
-/// [--stats] [--trace FILE] [--cert FILE]`, `replay LEFT RIGHT TRACE`, `verify LEFT RIGHT CERT` or `demo N [-k K] [-j J]`.
+/// One run of the program over these words, of which the first is its own name: `check LEFT RIGHT [-k K] [-d D] [-j J]
+/// [--classes] [--stats] [--trace FILE] [--cert FILE]`, `replay LEFT RIGHT TRACE`, `verify LEFT RIGHT CERT` or `demo N [-k K] [-j J]`.
 /// `check` decides by signal correspondence with k-induction (van Eijk, IEEE TCAD 19(7), 2000; Sheeran, Singh, Stålmarck,
-/// FMCAD 2000) after a search for a difference in the first k frames; `replay` tells the first difference of a stored trace;
+/// FMCAD 2000) after a search for a difference in the first k frames, or the first D where these are more; `replay` tells the first difference of a stored trace;
 /// `verify` reads a stored certificate, without solver or threads; `demo` checks a pair of any size that it makes itself.
 /// `check` and `demo` refine the classes by J workers, in threads that `rt` starts; they may wait for one another, and the
 /// gate may hold them. The verdict and the classes are the same however they go on.

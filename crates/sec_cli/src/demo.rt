@@ -36,6 +36,7 @@ fn check_of(d: &Demo) -> Check<'static>
         left: "",
         right: "",
         k: d.k,
+        depth: d.k,
         workers: d.workers,
         classes: false,
         stats: false,
