@@ -68,7 +68,9 @@ check_says given good =
     let stats = flag_same c (codes "stats") given refl in
     let trace = text_same c (codes "trace") given refl in
     let cert = text_same c (codes "cert") given refl in
-    rw (left, right, k, d, w, classes, stats, trace, cert) refl
+    let tie = flag_same c (codes "tie") given refl in
+    let least = flag_same c (codes "least") given refl in
+    rw (left, right, k, d, w, classes, stats, trace, cert, tie, least) refl
 
 replay_says : (given : List Given) → Each (IsGood replay_line) given → matched (Some ((sub 1).name, end_rows (sub 1).rules given)) ≡ replay_of (values_given given)
 unfolding sec_app check_app replay_app verify_app demo_app
@@ -77,7 +79,8 @@ replay_says given good =
     let left = text_same c (codes "LEFT") given refl in
     let right = text_same c (codes "RIGHT") given refl in
     let third = text_same c (codes "TRACE") given refl in
-    rw (left, right, third) refl
+    let tie = flag_same c (codes "tie") given refl in
+    rw (left, right, third, tie) refl
 
 verify_says : (given : List Given) → Each (IsGood verify_line) given → matched (Some ((sub 2).name, end_rows (sub 2).rules given)) ≡ verify_of (values_given given)
 unfolding sec_app check_app replay_app verify_app demo_app
@@ -86,7 +89,8 @@ verify_says given good =
     let left = text_same c (codes "LEFT") given refl in
     let right = text_same c (codes "RIGHT") given refl in
     let third = text_same c (codes "CERT") given refl in
-    rw (left, right, third) refl
+    let tie = flag_same c (codes "tie") given refl in
+    rw (left, right, third, tie) refl
 
 demo_says : (given : List Given) → Each (IsGood demo_line) given → matched (Some ((sub 3).name, end_rows (sub 3).rules given)) ≡ demo_of (values_given given)
 unfolding sec_app check_app replay_app verify_app demo_app

@@ -62,14 +62,14 @@ abbrev pub check_line : Line
 check_line = record {
   command = codes "check";
   names = name (codes "LEFT") ∷ name (codes "RIGHT") ∷ [];
-  options = depth ∷ search_depth ∷ workers ∷ flag (codes "classes") ∷ flag (codes "stats") ∷ file (codes "trace") ∷ file (codes "cert") ∷ [];
+  options = depth ∷ search_depth ∷ workers ∷ flag (codes "classes") ∷ flag (codes "stats") ∷ file (codes "trace") ∷ file (codes "cert") ∷ flag (codes "tie") ∷ flag (codes "least") ∷ [];
 }
 
 abbrev pub replay_line : Line
-replay_line = record { command = codes "replay"; names = name (codes "LEFT") ∷ name (codes "RIGHT") ∷ name (codes "TRACE") ∷ []; options = [] }
+replay_line = record { command = codes "replay"; names = name (codes "LEFT") ∷ name (codes "RIGHT") ∷ name (codes "TRACE") ∷ []; options = flag (codes "tie") ∷ [] }
 
 abbrev pub verify_line : Line
-verify_line = record { command = codes "verify"; names = name (codes "LEFT") ∷ name (codes "RIGHT") ∷ name (codes "CERT") ∷ []; options = [] }
+verify_line = record { command = codes "verify"; names = name (codes "LEFT") ∷ name (codes "RIGHT") ∷ name (codes "CERT") ∷ []; options = flag (codes "tie") ∷ [] }
 
 abbrev pub demo_line : Line
 demo_line = record { command = codes "demo"; names = size ∷ []; options = depth ∷ workers ∷ [] }

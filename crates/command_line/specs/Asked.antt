@@ -17,16 +17,20 @@ pub record CheckAsked : Type 0 where
   pub stats : Bool
   pub trace : Option (List ℕ)
   pub cert : Option (List ℕ)
+  pub tied : Bool
+  pub least : Bool
 
 pub record ReplayAsked : Type 0 where
   pub left : List ℕ
   pub right : List ℕ
   pub trace : List ℕ
+  pub tied : Bool
 
 pub record VerifyAsked : Type 0 where
   pub left : List ℕ
   pub right : List ℕ
   pub cert : List ℕ
+  pub tied : Bool
 
 pub data Asked : Type 0 where
   ForCheck : CheckAsked → Asked
@@ -35,13 +39,13 @@ pub data Asked : Type 0 where
   ForDemo : Demo → Asked
 
 abbrev pub check_asked : Check → CheckAsked
-check_asked c = record { left = c.left.now; right = c.right.now; k = c.k; depth = c.depth; workers = c.workers; classes = c.classes; stats = c.stats; trace = option_map (λ n. n.now) c.trace; cert = option_map (λ n. n.now) c.cert }
+check_asked c = record { left = c.left.now; right = c.right.now; k = c.k; depth = c.depth; workers = c.workers; classes = c.classes; stats = c.stats; trace = option_map (λ n. n.now) c.trace; cert = option_map (λ n. n.now) c.cert; tied = c.tied; least = c.least }
 
 abbrev pub replay_asked : Replay → ReplayAsked
-replay_asked c = record { left = c.left.now; right = c.right.now; trace = c.trace.now }
+replay_asked c = record { left = c.left.now; right = c.right.now; trace = c.trace.now; tied = c.tied }
 
 abbrev pub verify_asked : Verify → VerifyAsked
-verify_asked c = record { left = c.left.now; right = c.right.now; cert = c.cert.now }
+verify_asked c = record { left = c.left.now; right = c.right.now; cert = c.cert.now; tied = c.tied }
 
 -- what a command asks for
 abbrev pub asked_of : Command → Asked
@@ -116,21 +120,23 @@ check_of v = check_from (v.text (codes "LEFT")) (v.text (codes "RIGHT")) (v.numb
   stats = v.flag (codes "stats");
   trace = v.text (codes "trace");
   cert = v.text (codes "cert");
+  tied = v.flag (codes "tie");
+  least = v.flag (codes "least");
 })
 
-abbrev pub replay_from : Option (List ℕ) → Option (List ℕ) → Option (List ℕ) → Option Asked
-replay_from (Some left) (Some right) (Some trace) = Some (ForReplay (record { left = left; right = right; trace = trace }))
-replay_from left right trace = None
+abbrev pub replay_from : Option (List ℕ) → Option (List ℕ) → Option (List ℕ) → Bool → Option Asked
+replay_from (Some left) (Some right) (Some trace) tied = Some (ForReplay (record { left = left; right = right; trace = trace; tied = tied }))
+replay_from left right trace tied = None
 
 abbrev pub replay_of : Values → Option Asked
-replay_of v = replay_from (v.text (codes "LEFT")) (v.text (codes "RIGHT")) (v.text (codes "TRACE"))
+replay_of v = replay_from (v.text (codes "LEFT")) (v.text (codes "RIGHT")) (v.text (codes "TRACE")) (v.flag (codes "tie"))
 
-abbrev pub verify_from : Option (List ℕ) → Option (List ℕ) → Option (List ℕ) → Option Asked
-verify_from (Some left) (Some right) (Some cert) = Some (ForVerify (record { left = left; right = right; cert = cert }))
-verify_from left right cert = None
+abbrev pub verify_from : Option (List ℕ) → Option (List ℕ) → Option (List ℕ) → Bool → Option Asked
+verify_from (Some left) (Some right) (Some cert) tied = Some (ForVerify (record { left = left; right = right; cert = cert; tied = tied }))
+verify_from left right cert tied = None
 
 abbrev pub verify_of : Values → Option Asked
-verify_of v = verify_from (v.text (codes "LEFT")) (v.text (codes "RIGHT")) (v.text (codes "CERT"))
+verify_of v = verify_from (v.text (codes "LEFT")) (v.text (codes "RIGHT")) (v.text (codes "CERT")) (v.flag (codes "tie"))
 
 abbrev pub demo_from : Option ℕ → Option ℕ → Option ℕ → Option Asked
 demo_from (Some n) (Some k) (Some workers) = Some (ForDemo (record { n = n; k = k; workers = workers }))

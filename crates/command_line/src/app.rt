@@ -86,7 +86,9 @@ fn check_command<'a>(alloc: Global) -> Result<Command<'a>, AllocError>
         .arg(flag_arg(alloc, "classes"))?
         .arg(flag_arg(alloc, "stats"))?
         .arg(file_arg(alloc, "trace"))?
-        .arg(file_arg(alloc, "cert"))
+        .arg(file_arg(alloc, "cert"))?
+        .arg(flag_arg(alloc, "tie"))?
+        .arg(flag_arg(alloc, "least"))
 }
 
 fn replay_command<'a>(alloc: Global) -> Result<Command<'a>, AllocError>
@@ -95,7 +97,8 @@ fn replay_command<'a>(alloc: Global) -> Result<Command<'a>, AllocError>
     Command::new(alloc, "replay")
         .arg(name_arg(alloc, "LEFT"))?
         .arg(name_arg(alloc, "RIGHT"))?
-        .arg(name_arg(alloc, "TRACE"))
+        .arg(name_arg(alloc, "TRACE"))?
+        .arg(flag_arg(alloc, "tie"))
 }
 
 fn verify_command<'a>(alloc: Global) -> Result<Command<'a>, AllocError>
@@ -104,7 +107,8 @@ fn verify_command<'a>(alloc: Global) -> Result<Command<'a>, AllocError>
     Command::new(alloc, "verify")
         .arg(name_arg(alloc, "LEFT"))?
         .arg(name_arg(alloc, "RIGHT"))?
-        .arg(name_arg(alloc, "CERT"))
+        .arg(name_arg(alloc, "CERT"))?
+        .arg(flag_arg(alloc, "tie"))
 }
 
 fn demo_command<'a>(alloc: Global) -> Result<Command<'a>, AllocError>

@@ -28,6 +28,10 @@ pub struct Check<'w> {
     pub trace: Option<&'w str>,
     /// Where a certificate is stored.
     pub cert: Option<&'w str>,
+    /// Whether the free latches of both netlists are tied, in their order.
+    pub tied: bool,
+    /// Whether the trace of a difference is that of its least run.
+    pub least: bool,
 }
 
 /// The words of `replay`.
@@ -36,6 +40,8 @@ pub struct Replay<'w> {
     pub left: &'w str,
     pub right: &'w str,
     pub trace: &'w str,
+    /// Whether the free latches are tied.
+    pub tied: bool,
 }
 
 /// The words of `verify`.
@@ -44,6 +50,8 @@ pub struct Verify<'w> {
     pub left: &'w str,
     pub right: &'w str,
     pub cert: &'w str,
+    /// Whether the free latches are tied.
+    pub tied: bool,
 }
 
 /// The words of `demo`.

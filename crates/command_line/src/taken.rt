@@ -73,6 +73,8 @@ fn check_of<'w>(found: &ArgMatches<'w>) -> Option<Command<'w>>
         stats: has_flag(found, "stats"),
         trace: text_of(found, "trace"),
         cert: text_of(found, "cert"),
+        tied: has_flag(found, "tie"),
+        least: has_flag(found, "least"),
     }))
 }
 
@@ -83,7 +85,12 @@ fn replay_of<'w>(found: &ArgMatches<'w>) -> Option<Command<'w>>
     let left = text_of(found, "LEFT")?;
     let right = text_of(found, "RIGHT")?;
     let trace = text_of(found, "TRACE")?;
-    Some(Command::Replay(Replay { left, right, trace }))
+    Some(Command::Replay(Replay {
+        left,
+        right,
+        trace,
+        tied: has_flag(found, "tie"),
+    }))
 }
 
 fn verify_of<'w>(found: &ArgMatches<'w>) -> Option<Command<'w>>
@@ -93,7 +100,12 @@ fn verify_of<'w>(found: &ArgMatches<'w>) -> Option<Command<'w>>
     let left = text_of(found, "LEFT")?;
     let right = text_of(found, "RIGHT")?;
     let cert = text_of(found, "CERT")?;
-    Some(Command::Verify(Verify { left, right, cert }))
+    Some(Command::Verify(Verify {
+        left,
+        right,
+        cert,
+        tied: has_flag(found, "tie"),
+    }))
 }
 
 fn demo_of<'w>(found: &ArgMatches<'w>) -> Option<Command<'w>>

@@ -15,4 +15,6 @@ returns c =
     let six = with_one_rule _ _ _ _ _ c.in_ok-arg-6.ensures c.flag_arg.ensures.local c.flag_arg.ensures.rule five in
     let seven = with_one_rule _ _ _ _ _ c.in_ok-arg-7.ensures c.flag_arg-2.ensures.local c.flag_arg-2.ensures.rule six in
     let eight = with_one_rule _ _ _ _ _ c.in_ok-arg-8.ensures c.file_arg.ensures.local c.file_arg.ensures.rule seven in
-    IfOk-weaker c.arg-9.result _ _ (λ r added. with_one_rule _ r _ _ _ added c.file_arg-2.ensures.local c.file_arg-2.ensures.rule eight) c.arg-9.ensures
+    let nine = with_one_rule _ _ _ _ _ c.in_ok-arg-9.ensures c.file_arg-2.ensures.local c.file_arg-2.ensures.rule eight in
+    let ten = with_one_rule _ _ _ _ _ c.in_ok-arg-10.ensures c.flag_arg-3.ensures.local c.flag_arg-3.ensures.rule nine in
+    IfOk-weaker c.arg-11.result _ _ (λ r added. with_one_rule _ r _ _ _ added c.flag_arg-4.ensures.local c.flag_arg-4.ensures.rule ten) c.arg-11.ensures
