@@ -114,48 +114,66 @@ fn goes_on_badly(
     kind: CertKind,
     line: u64,
 ) -> Result<bool, AllocError> {
-    let head = b"seccert 1 k=1 signals=3\n".as_slice();
+    let head = b"seccert 2 k=1 signals=3 tie=0\n".as_slice();
     let text = put_together(alloc, head, b"class l1 r1\n".as_slice(), parts)?;
     is_no(alloc, product, text.as_slice(), kind, line)
 }
 
 // Heads and class lines with their faults.
 fn bad_beginnings_are_told(alloc: Global, product: &Product) -> Result<bool, AllocError> {
-    let head = b"seccert 1 k=1 signals=3\n".as_slice();
+    let head = b"seccert 2 k=1 signals=3 tie=0\n".as_slice();
     let class = b"class l1 r1\n".as_slice();
     for (head, classes, kind, line) in [
         (
-            b"seccert 1 k=1 signals=4\n".as_slice(),
+            b"seccert 2 k=1 signals=4 tie=0\n".as_slice(),
             class,
             CertKind::Signals,
             1,
         ),
         (
-            b"seccert 1 k=17 signals=3\n".as_slice(),
+            b"seccert 2 k=17 signals=3 tie=0\n".as_slice(),
             class,
             CertKind::Limit,
             1,
         ),
         (
-            b"seccert 1 k=0 signals=4\n".as_slice(),
+            b"seccert 2 k=0 signals=4 tie=0\n".as_slice(),
             class,
             CertKind::Limit,
             1,
         ),
         (
-            b"seccert 1 k=99999999999 signals=3\n".as_slice(),
+            b"seccert 2 k=99999999999 signals=3 tie=0\n".as_slice(),
             class,
             CertKind::Limit,
             1,
         ),
         (
-            b"seccert 1 k=01 signals=3\n".as_slice(),
+            b"seccert 2 k=01 signals=3 tie=0\n".as_slice(),
             class,
             CertKind::Line,
             1,
         ),
         (
-            b"seccert 1 k= signals=3\n".as_slice(),
+            b"seccert 2 k= signals=3 tie=0\n".as_slice(),
+            class,
+            CertKind::Line,
+            1,
+        ),
+        (
+            b"seccert 2 k=1 signals=3 tie=0 \n".as_slice(),
+            class,
+            CertKind::Line,
+            1,
+        ),
+        (
+            b"seccert 2 k=1  signals=3 tie=0\n".as_slice(),
+            class,
+            CertKind::Line,
+            1,
+        ),
+        (
+            b"seccert 2 k=1 signals=3 tie=2\n".as_slice(),
             class,
             CertKind::Line,
             1,
@@ -167,15 +185,33 @@ fn bad_beginnings_are_told(alloc: Global, product: &Product) -> Result<bool, All
             1,
         ),
         (
-            b"seccert 1 k=1 signals=3 \n".as_slice(),
+            b"seccert 1 k=1 signals=3 tie=0\n".as_slice(),
             class,
             CertKind::Line,
             1,
         ),
         (
-            b"seccert 1 k=1  signals=3\n".as_slice(),
+            b"seccert 3 k=1 signals=3 tie=0\n".as_slice(),
             class,
             CertKind::Line,
+            1,
+        ),
+        (
+            b"seccert 2 k=1 signals=3 tie=1\n".as_slice(),
+            class,
+            CertKind::Tie,
+            1,
+        ),
+        (
+            b"seccert 2 k=1 signals=4 tie=1\n".as_slice(),
+            class,
+            CertKind::Signals,
+            1,
+        ),
+        (
+            b"seccert 1 k=1 signals=4\n".as_slice(),
+            class,
+            CertKind::Signals,
             1,
         ),
         (head, b"".as_slice(), CertKind::Outputs, 1),
@@ -279,9 +315,14 @@ fn bad_parts_are_told(alloc: Global, product: &Product) -> Result<bool, AllocErr
 // Whether the worked certificate is accepted, each of its cuts is told, and no change of one byte is accepted.
 fn the_worked_one_is_accepted_alone(alloc: Global, product: &Product) -> Result<bool, AllocError> {
     let text =
-        b"seccert 1 k=1 signals=3\nclass l1 r1\nbase r1\n0 6 2 3 4 0\nstep r1\n-2 0 3 8 5 11 9 0\n0 12 4 7 6 11 10 0\nend\n";
+        b"seccert 2 k=1 signals=3 tie=0\nclass l1 r1\nbase r1\n0 6 2 3 4 0\nstep r1\n-2 0 3 8 5 11 9 0\n0 12 4 7 6 11 10 0\nend\n";
     let text = text.as_slice();
     if !is_yes(alloc, product, text)? || !cuts_are_told(alloc, product, text)? {
+        return Ok(false);
+    }
+    let before =
+        b"seccert 1 k=1 signals=3\nclass l1 r1\nbase r1\n0 6 2 3 4 0\nstep r1\n-2 0 3 8 5 11 9 0\n0 12 4 7 6 11 10 0\nend\n";
+    if !is_yes(alloc, product, before.as_slice())? {
         return Ok(false);
     }
     for byte in [b'0', b'1', b'2', b'9', b'-', b' ', b'\n', b'!', b'l', b'r'] {
@@ -306,6 +347,70 @@ fn a_certificate_is_verified_or_its_first_fault_is_told(rt: HostRuntime) -> Resu
     Ok(())
 }
 
+// A free latch that keeps the bit that it starts with, and is shown.
+fn keeping(alloc: Global) -> Result<Netlist, BuildFault> {
+    let mut net = NetBuilder::new(alloc, 1)?;
+    net.latch(1, Lit::of(1, false), Lit::of(1, false))?;
+    net.output(Lit::of(1, false))?;
+    net.finish(alloc)
+}
+
+// Two of them, tied or not.
+fn two_kept(alloc: Global, tied: bool) -> Result<Product, PairFault> {
+    match (keeping(alloc), keeping(alloc)) {
+        (Ok(left), Ok(right)) => {
+            if tied {
+                Product::tied(alloc, left, right)
+            } else {
+                Product::new(alloc, left, right)
+            }
+        }
+        _ => Err(PairFault::Memory),
+    }
+}
+
+// What becomes of this head before the parts that need the tie.
+fn kept_with(alloc: Global, product: &Product, head: &[u8]) -> Result<Checked, AllocError> {
+    let parts =
+        b"base r1\n-2 0 3 6 5 0\n0 7 2 6 4 0\nstep r1\n-2 0 4 8 6 11 10 0\n0 12 3 7 5 11 9 0\nend\n";
+    let text = put_together(alloc, head, b"class l1 r1\n".as_slice(), parts.as_slice())?;
+    verify(alloc, product, text.as_slice())
+}
+
+#[test]
+fn a_certificate_speaks_of_the_ties_of_its_pair(rt: HostRuntime) -> Result<(), Fail> {
+    let alloc = rt.alloc();
+    let (Ok(tied), Ok(untied)) = (two_kept(alloc, true), two_kept(alloc, false)) else {
+        assert!(rt; false);
+        return Ok(());
+    };
+    let tie = Checked::No(CertFault {
+        kind: CertKind::Tie,
+        line: 1,
+    });
+    let derivation = Checked::No(CertFault {
+        kind: CertKind::Derivation,
+        line: 4,
+    });
+    for (head, of_tied, of_untied) in [
+        (
+            b"seccert 2 k=1 signals=3 tie=1\n".as_slice(),
+            Checked::Yes,
+            tie,
+        ),
+        (
+            b"seccert 2 k=1 signals=3 tie=0\n".as_slice(),
+            tie,
+            derivation,
+        ),
+        (b"seccert 1 k=1 signals=3\n".as_slice(), tie, derivation),
+    ] {
+        assert!(rt; kept_with(alloc, &tied, head)? == of_tied);
+        assert!(rt; kept_with(alloc, &untied, head)? == of_untied);
+    }
+    Ok(())
+}
+
 // The text of a log, trimmed over a formula of six clauses.
 fn trimmed_text(alloc: Global, bytes: &[u8]) -> Result<Vec<u8>, LogError> {
     let log = read_log(alloc, bytes)?;
@@ -323,7 +428,7 @@ fn trimmed_text(alloc: Global, bytes: &[u8]) -> Result<Vec<u8>, LogError> {
 fn is_yes_with(alloc: Global, product: &Product, base: &[u8]) -> Result<bool, AllocError> {
     let mut text = put_together(
         alloc,
-        b"seccert 1 k=1 signals=3\n".as_slice(),
+        b"seccert 2 k=1 signals=3 tie=0\n".as_slice(),
         b"class l1 r1\nbase r1\n".as_slice(),
         base,
     )?;

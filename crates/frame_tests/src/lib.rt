@@ -9,6 +9,8 @@ mod class_lines;
 #[cfg(test)]
 mod induction;
 #[cfg(test)]
+mod least_runs;
+#[cfg(test)]
 mod partitions;
 #[cfg(test)]
 mod products;

@@ -35,6 +35,26 @@ fn pair_of(
     }
 }
 
+// Two latches that keep the bits that they start with, and the first variable shown. The second latch is free.
+fn keeping(alloc: Global, first: u32, reset: u32, second: u32) -> Result<Netlist, BuildFault> {
+    let mut net = NetBuilder::new(alloc, 2)?;
+    net.latch(first / 2, literal(first), literal(reset))?;
+    net.latch(second / 2, literal(second), literal(second))?;
+    net.output(literal(2))?;
+    net.finish(alloc)
+}
+
+fn tied_pair_of(
+    alloc: Global,
+    left: Result<Netlist, BuildFault>,
+    right: Result<Netlist, BuildFault>,
+) -> Result<Product, PairFault> {
+    match (left, right) {
+        (Ok(left), Ok(right)) => Product::tied(alloc, left, right),
+        _ => Err(PairFault::Memory),
+    }
+}
+
 fn fault_of(alloc: Global, product: &Product, bytes: &[u8]) -> Option<TraceFault> {
     match read_trace(alloc, product, bytes) {
         Err(TraceError::Refused(fault)) => Some(fault),
@@ -88,5 +108,73 @@ fn traces_are_refused_or_replayed(rt: HostRuntime) -> Result<(), Fail> {
         }
         Err(_) => assert!(rt; false),
     }
+    Ok(())
+}
+
+// Whether texts for a pair have these faults in line 3, or none.
+fn starts_are_told(
+    alloc: Global,
+    pair: Result<Product, PairFault>,
+    texts: [(&'static [u8], Option<TraceKind>); 3],
+) -> bool {
+    let Ok(product) = pair else {
+        return false;
+    };
+    for (bytes, kind) in texts {
+        match kind {
+            Some(kind) => {
+                if fault_of(alloc, &product, bytes) != Some(TraceFault { kind, line: 3 }) {
+                    return false;
+                }
+            }
+            None => {
+                if !is_written_again(alloc, &product, bytes) {
+                    return false;
+                }
+            }
+        }
+    }
+    true
+}
+
+#[test]
+fn a_broken_tie_is_told_after_the_resets(rt: HostRuntime) -> Result<(), Fail> {
+    let alloc = rt.alloc();
+    let reset = tied_pair_of(alloc, keeping(alloc, 2, 0, 4), keeping(alloc, 2, 0, 4));
+    assert!(rt;
+        starts_are_told(
+            alloc,
+            reset,
+            [
+                (b"1\nb0\n1001\n\n.\n".as_slice(), Some(TraceKind::Reset)),
+                (b"1\nb0\n0001\n\n.\n".as_slice(), Some(TraceKind::Tie)),
+                (b"1\nb0\n0101\n\n.\n".as_slice(), None),
+            ],
+        )
+    );
+    let crossed = tied_pair_of(alloc, keeping(alloc, 2, 2, 4), keeping(alloc, 4, 4, 2));
+    assert!(rt;
+        starts_are_told(
+            alloc,
+            crossed,
+            [
+                (b"1\nb0\n0110\n\n.\n".as_slice(), Some(TraceKind::Tie)),
+                (b"1\nb0\n1000\n\n.\n".as_slice(), Some(TraceKind::Tie)),
+                (b"1\nb0\n0101\n\n.\n".as_slice(), None),
+            ],
+        )
+    );
+    let untied = pair_of(alloc, keeping(alloc, 2, 2, 4), keeping(alloc, 4, 4, 2));
+    assert!(rt;
+        starts_are_told(
+            alloc,
+            untied,
+            [
+                (b"1\nb0\n0110\n\n.\n".as_slice(), None),
+                (b"1\nb0\n1000\n\n.\n".as_slice(), None),
+                (b"1\nb0\n0101\n\n.\n".as_slice(), None),
+            ],
+        )
+    );
     Ok(())
 }

@@ -71,7 +71,7 @@ abbrev pub no_net : Netlist
 no_net = record { max_var = 0; inputs = []; latches = []; outputs = []; gates = [] }
 
 abbrev pub no_pair : Pair
-no_pair = record { left = no_net; right = no_net }
+no_pair = record { left = no_net; right = no_net; tied = false }
 
 abbrev pub no_state : State
 no_state = record { classes = record { least = []; phase = [] }; number = 0; marks = []; calls = []; offers = [] }

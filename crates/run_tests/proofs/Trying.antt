@@ -13,6 +13,8 @@ use Rattle.circ_model.proofs.Enumerate.{every_path, every_bits, spelled_is_path}
 use Rattle.class_partition.specs.Classes.{Classes, ArePartition, AreOfGreatest, HoldIn, IsStable, KeepsGreatest, IsSplit, one_class}
 use Rattle.class_partition.proofs.Partition.{split_keeps, exact, passes_from_stable, may_split_after, one_class_keeps}
 use Rattle.circ_model.proofs.Greatest.{may_split_agrees}
+use Rattle.circ_model.proofs.Paths.{length_resets}
+use Rattle.product_machine.proofs.Partners.{run_starts, starts_run}
 use Rattle.run_tests.specs.Plain.{free_bits, numbered_path, StartsRun, LeavesWhole}
 
 -- the bits of a number, each by its place
@@ -67,10 +69,13 @@ second_row_is pair path start first state second s f n i = ap₂ (row pair) (n �
 
 -- the first row of a run, and the second row after the classes held, may split
 pub run_of : (pair : Pair) (number : ℕ) (start : List Bool) → start ≡ (numbered_path pair number).start → StartsRun pair start → IsRun pair (numbered_path pair number)
-run_of pair number start e starts = record { is_path = is_path pair number; reset = subst (StartsRun pair) e starts }
+run_of pair number start e starts =
+    let path : Path = numbered_path pair number in
+    starts_run pair path (is_path pair number) (λ i lt. subst (StartsRun pair) e starts i (let size = (is_path pair number).start in omega arith))
 
 pub starts_of : (pair : Pair) (number : ℕ) (start : List Bool) → start ≡ (numbered_path pair number).start → IsRun pair (numbered_path pair number) → StartsRun pair start
-starts_of pair number start e run = subst (StartsRun pair) (sym e) run.reset
+starts_of pair number start e run =
+    subst (StartsRun pair) (sym e) (λ i lt. run_starts pair (numbered_path pair number) i run (let size = run.is_path.start in omega arith))
 
 pub first_may : (pair : Pair) (number : ℕ) (start first : List Bool) → start ≡ (numbered_path pair number).start → first ≡ row_at pair (numbered_path pair number) 0 → StartsRun pair start → MaySplit pair 1 first
 first_may pair number start first s f starts = OfRun (numbered_path pair number) 0 (run_of pair number start s starts) (omega (arith, two_rows pair number)) f
@@ -113,6 +118,7 @@ doubled_run pair run is len =
     record {
       is_path = record { start = is.is_path.start; inputs = All-cons (IsInputRow pair) (inputs_at run 0) (inputs_at run 0 ∷ []) first (All-cons (IsInputRow pair) (inputs_at run 0) [] first (All-nil (IsInputRow pair))) };
       reset = is.reset;
+      ties = is.ties;
     }
 
 pub stable : (pair : Pair) (classes : Classes) → ((number : ℕ) → number < 2 ^ free_bits pair → LeavesWhole pair classes number) → IsStable pair 1 classes
@@ -130,7 +136,7 @@ greatest_is pair classes partition keeps all = exact pair 1 classes partition ke
 -- the first state is the start of the quiet run, and its row the phases
 pub first_state_is : (pair : Pair) (state : List Bool) → length state ≡ latches_of pair → ((k : ℕ) → k < latches_of pair → bit state k ≡ first_bit (slice_index_or (resets pair) k Free)) → state ≡ map first_bit (resets pair)
 first_state_is pair state size bits =
-    let n : length (resets pair) ≡ latches_of pair = omega (arith, length-append (map (λ (l : Latch). l.reset) pair.left.latches) (map (λ (l : Latch). l.reset) pair.right.latches), length-map pair.left.latches (λ (l : Latch). l.reset), length-map pair.right.latches (λ (l : Latch). l.reset)) in
+    let n : length (resets pair) ≡ latches_of pair = length_resets pair in
     ext_get_or false state (map first_bit (resets pair)) (omega (arith, size, n, length-map (resets pair) first_bit))
     (λ k lt. bits k (omega (arith, size)) ∙ sym (get_or-map first_bit (resets pair) k Free false (omega (arith, size, n))))
 

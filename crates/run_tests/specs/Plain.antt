@@ -1,8 +1,7 @@
 -- The plain way to the greatest correspondence for k = 1: all paths of two rows are tried, each spelled by a number.
-use Rattle.std.specs.Prelude.{◌≡◌, ℕ, ◌+◌, ◌*◌, ◌<◌, List, length, Bool}
-use Rattle.circ_model.specs.declared.netlist.Reset.TheVariants.{Free}
-use Rattle.circ_model.specs.Meaning.{Pair, Path, IsRun, MayStartAt, bit, latches_of, places_of, resets, row_at}
-use Rattle.std.specs.Prelude.{slice_index_or}
+use Rattle.std.specs.Prelude.{◌≡◌, ℕ, ◌+◌, ◌*◌, ◌<◌, List, [], length, Bool}
+use Rattle.circ_model.specs.Meaning.{Pair, Path, IsRun, latches_of, places_of, row_at}
+use Rattle.product_machine.specs.States.{MayStart}
 use Rattle.circ_model.specs.Runs.{path_of_bits, bits_of}
 use Rattle.class_partition.specs.Classes.{Classes, HoldIn}
 
@@ -14,9 +13,9 @@ free_bits pair = latches_of pair + 2 * length pair.left.inputs
 abbrev pub numbered_path : Pair → ℕ → Path
 numbered_path pair number = path_of_bits pair 2 (bits_of (free_bits pair) number)
 
--- the start bits agree with the resets
+-- the start bits agree with the resets, and in a tied pair those of partners with each other
 abbrev pub StartsRun : Pair → List Bool → Type 0
-StartsRun pair start = (i : ℕ) → i < length start → MayStartAt (slice_index_or (resets pair) i Free) (bit start i)
+StartsRun pair start = (i : ℕ) → i < length start → MayStart pair (record { start = start; inputs = [] }) i
 
 -- neither row of this path divides a class: not the first, where the path is a run, and not the second, where the classes hold in the first
 pub record LeavesWhole (pair : Pair) (classes : Classes) (number : ℕ) : Type 0 where

@@ -7,6 +7,8 @@ ghost use Rattle.circ_model.specs.Meaning.{Pair, MayStartAt, bit, latches_of, pl
 ghost use Rattle.circ_model.specs.Runs.{first_bit, phases};
 ghost use Rattle.circ_model.specs.Correspondence.{MaySplit};
 ghost use Rattle.class_partition.specs.Classes.{ArePartition, AreOfGreatest, HoldIn, KeepsGreatest, class_count, relative};
+ghost use Rattle.std.specs.Prelude.{[]};
+ghost use Rattle.product_machine.specs.States.{MayStart, StartsLike};
 ghost use Rattle.run_tests.specs.Plain.{free_bits, numbered_path, StartsRun, LeavesWhole, AreSized};
 
 use bit_rows::BitRow;
@@ -78,13 +80,34 @@ fn may_start(reset: Reset, bit: bool) -> bool
     }
 }
 
+// Whether a latch starts as its partner, where it has one.
+fn starts_tied(product: &Product, start: &BitRow, i: u32) -> bool
+    requires start { length start.now ≡ latches_of product.now }
+    requires latch { i < latches_of product.now }
+    ensures { IsTrue result ↔ StartsLike product.now (record { start = start.now; inputs = [] }) i }
+{
+    match product.tie(i) {
+        None => true,
+        Some(partner) => start.get(i) == start.get(partner),
+    }
+}
+
+// Whether a latch may start so.
+fn latch_starts(product: &Product, start: &BitRow, i: u32) -> bool
+    requires start { length start.now ≡ latches_of product.now }
+    requires latch { i < latches_of product.now }
+    ensures { IsTrue result ↔ MayStart product.now (record { start = start.now; inputs = [] }) i }
+{
+    may_start(product.reset(i), start.get(i)) && starts_tied(product, start, i)
+}
+
 // Whether a run may start so.
 fn starts_run(product: &Product, start: &BitRow) -> bool
     requires { length start.now ≡ latches_of product.now }
     ensures { IsTrue result ↔ StartsRun product.now start.now }
 {
     for i in 0..start.len() {
-        if !may_start(product.reset(i), start.get(i)) {
+        if !latch_starts(product, start, i) {
             return false;
         }
     }

@@ -1,4 +1,4 @@
-use Rattle.std.proofs.Common.{◌≡◌, ◌∙◌, ◌++◌, ◌∷◌, [], ℤ, List, ap}
+use Rattle.std.proofs.Common.{◌∙◌, ◌++◌, ◌∷◌, [], ℤ, List, ap}
 use Rattle.cnf_store.specs.Clauses.{Formula}
 use Rattle.and_graph.proofs.Learning.{cone_lemma}
 use Rattle.and_graph.proofs.cone.Cone.recall.Goals as goal

@@ -1,7 +1,7 @@
-use Rattle.std.proofs.Common.{◌≡◌, ◌∙◌, ◌<◌, ◌++◌, ◌∷◌, [], ℕ, ℤ, Bool, true, List, length, ap, sym, subst, arith, rules}
+use Rattle.std.proofs.Common.{◌<◌, ℕ, length, sym, subst, arith, rules}
 use Rattle.cnf_store.specs.Clauses.{AreLiterals}
 use Rattle.sat_log.specs.Derivations.{line_at}
-use Rattle.and_graph.specs.Lemmas.{ArePureHints, ClauseHolds, PureHold}
+use Rattle.and_graph.specs.Lemmas.{ClauseHolds, PureHold}
 use Rattle.and_graph.proofs.Pure.{follow_at}
 use Rattle.and_graph.proofs.Learning.{line_holds, pure_pushed}
 use Rattle.and_graph.proofs.lemmas.Lemmas.learn.Goals as goal

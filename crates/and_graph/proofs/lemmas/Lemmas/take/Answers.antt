@@ -1,4 +1,4 @@
-use Rattle.std.proofs.Common.{◌≡◌, ◌∙◌, ◌++◌, ◌∷◌, [], ℕ, List, ap, sym, subst, rules}
+use Rattle.std.proofs.Common.{◌∙◌, ◌++◌, ◌∷◌, [], ℕ, List, ap, sym, subst}
 use Rattle.and_graph.specs.Lemmas.{AreLemmas}
 use Rattle.and_graph.proofs.Learning.{lemma_added}
 use Rattle.and_graph.proofs.lemmas.Lemmas.take.Goals as goal
