@@ -1,5 +1,5 @@
 -- A board of refinement as plain data, and the changes that its entries make.
-use Rattle.std.specs.Prelude.{◌≡◌, ◌==◌, ℕ, ◌+◌, ◌<◌, List, [], set, replicate, if◌then◌else◌, slice_index, slice_index_or, Option, Some, None}
+use Rattle.std.specs.Prelude.{◌≡◌, ◌==◌, ℕ, ◌+◌, ◌<◌, List, [], false, set, replicate, if◌then◌else◌, slice_index, slice_index_or, Option, Some, None}
 use Rattle.boxcar.specs.Table.{Shelves}
 use Rattle.circ_model.specs.Netlist.{Netlist}
 use Rattle.circ_model.specs.Meaning.{Pair}

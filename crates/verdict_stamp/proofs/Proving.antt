@@ -4,7 +4,7 @@ use Rattle.std.proofs.lemmas.List.Elements.{All-nil}
 use Rattle.circ_model.specs.Meaning.{Pair, Path, IsPath, IsRun, places_of, row_at, value_in}
 use Rattle.circ_model.specs.Correspondence.{HoldsIn, MaySplit, MaySplit.OfRun}
 use Rattle.circ_model.proofs.Rows.{length_row}
-use Rattle.class_partition.specs.Classes.{Classes, HoldIn, IsNeeded, Passes, needed}
+use Rattle.class_partition.specs.Classes.{Classes, HoldIn, IsNeeded, needed}
 use Rattle.sat_log.specs.Derivations.{Line}
 use Rattle.class_partition.proofs.Partition.{may_split_after}
 use Rattle.frame_unroll.specs.declared.found.Seen.{Seen}

@@ -3,8 +3,8 @@ use Rattle.circ_model.specs.Meaning.{places_of}
 use Rattle.class_partition.specs.Classes.{class_count}
 use Rattle.verdict_stamp.proofs.refine.greatest_classes.Given as goal
 
-abbrev pub invariant-loop-next : goal.invariant-loop-next
-invariant-loop-next l = (l.version.pair ≡ l.product) × (l.version.k ≡ l.k)
+abbrev pub invariant-loop-version : goal.invariant-loop-version
+invariant-loop-version l = (l.version.pair ≡ l.product) × (l.version.k ≡ l.k)
 
-abbrev pub decreases-loop-next : goal.decreases-loop-next
-decreases-loop-next l = places_of l.product - class_count (places_of l.product) l.version.classes
+abbrev pub decreases-loop-version : goal.decreases-loop-version
+decreases-loop-version l = places_of l.product - class_count (places_of l.product) l.version.classes

@@ -1,4 +1,3 @@
-use Rattle.std.proofs.Common.{ap}
 use Rattle.verdict_stamp.proofs.Proving.{apart_of, held_is, may_by}
 use Rattle.verdict_stamp.proofs.prover.Prover.held.Goals as goal
 

@@ -1,4 +1,4 @@
-use Rattle.std.proofs.Common.{rules, ◌∙◌, ap, subst, sym}
+use Rattle.std.proofs.Common.{◌∙◌, subst, sym}
 use Rattle.frame_graph.specs.Inductions.{Induction, StepPasses}
 use Rattle.verdict_stamp.specs.Versions.{Standing, induction_of}
 use Rattle.verdict_stamp.specs.Proofs.{IsSplitOf}
