@@ -18,6 +18,11 @@ fn named(alloc: Global, option: &str, name: Option<&str>) -> Result<String, Allo
     }
 }
 
+// Whether free latches are tied.
+fn tied(is_tied: bool) -> &'static str {
+    if is_tied { " tie" } else { "" }
+}
+
 // The depth of the search, where it is not that of the induction.
 fn deeper(alloc: Global, c: &Check) -> Result<String, AllocError> {
     let depth = c.depth;
@@ -37,18 +42,20 @@ fn said(alloc: Global, text: &str) -> Result<String, AllocError> {
             let trace = named(alloc, "trace", c.trace)?;
             let cert = named(alloc, "cert", c.cert)?;
             let deeper = deeper(alloc, &c)?;
+            let tied = tied(c.tied);
+            let least = if c.least { " least" } else { "" };
             let (left, right, k, workers) = (c.left, c.right, c.k, c.workers);
             format!(in alloc;
-                "check <{left}> <{right}> k={k}{deeper} j={workers}{classes}{stats}{trace}{cert}"
+                "check <{left}> <{right}> k={k}{deeper} j={workers}{classes}{stats}{trace}{cert}{tied}{least}"
             )
         }
         Ok(Command::Replay(r)) => {
-            let (left, right, trace) = (r.left, r.right, r.trace);
-            format!(in alloc; "replay <{left}> <{right}> <{trace}>")
+            let (left, right, trace, tied) = (r.left, r.right, r.trace, tied(r.tied));
+            format!(in alloc; "replay <{left}> <{right}> <{trace}>{tied}")
         }
         Ok(Command::Verify(v)) => {
-            let (left, right, cert) = (v.left, v.right, v.cert);
-            format!(in alloc; "verify <{left}> <{right}> <{cert}>")
+            let (left, right, cert, tied) = (v.left, v.right, v.cert, tied(v.tied));
+            format!(in alloc; "verify <{left}> <{right}> <{cert}>{tied}")
         }
         Ok(Command::Demo(d)) => {
             let (n, k, workers) = (d.n, d.k, d.workers);
@@ -72,6 +79,13 @@ fn plain_words_mean_what_they_say(rt: HostRuntime) -> Result<(), Fail> {
             "sec check a b -k 16 -j 64 --classes --stats --trace t --cert c",
             "check <a> <b> k=16 j=64 classes stats trace=<t> cert=<c>",
         ),
+        ("sec check a --least b", "check <a> <b> k=1 j=1 least"),
+        (
+            "sec check a b --cert c --tie --least",
+            "check <a> <b> k=1 j=1 cert=<c> tie least",
+        ),
+        ("sec replay --tie a b t", "replay <a> <b> <t> tie"),
+        ("sec verify a b c --tie", "verify <a> <b> <c> tie"),
         (
             "sec check --cert c --trace t a --stats --classes b -j 64 -k 16",
             "check <a> <b> k=16 j=64 classes stats trace=<t> cert=<c>",
