@@ -89,7 +89,7 @@ FILES = {
     "toggle": TOGGLE,
     "low": LOW,
     "trace": "1\nb0\n0\n\n\n.\n",
-    "cert": "seccert 1 k=1 signals=3\nclass l1 r1\nbase r1\n0 6 2 3 4 0\nstep r1\n-2 0 3 8 5 11 9 0\n0 12 4 7 6 11 10 0\nend\n",
+    "cert": "seccert 2 k=1 signals=3 tie=0\nclass l1 r1\nbase r1\n0 6 2 3 4 0\nstep r1\n-2 0 3 8 5 11 9 0\n0 12 4 7 6 11 10 0\nend\n",
 }
 COMMANDS = [
     "check delay masked -j 2",

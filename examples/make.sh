@@ -20,6 +20,8 @@ two fifo fifo fifo_rewritten
 two fifo fifo fifo_bug
 two multiplier multiplier multiplier_cells
 
+two filter filter filter_tree
+
 two arbiter arbiter arbiter_onehot
 for name in arbiter arbiter_onehot; do
     "$here/after_reset.py" "$folder/$name.aig" "$folder/$name.reset" rst=1

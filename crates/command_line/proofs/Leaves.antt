@@ -9,7 +9,7 @@ use Rattle.clap.specs.Walk.{Row, Rule, Text, answers_to, first_of, nothing_held,
 use Rattle.clap.specs.Words.{fault_of, subcommand_of}
 use Rattle.command_line.specs.App.{sec_app, check_app, replay_app, verify_app, demo_app}
 use Rattle.command_line.specs.Asked.{CheckAsked, check_from, replay_from, verify_from, demo_from, most_depth, most_size, most_workers}
-use Rattle.command_line.specs.Meant.{matched, number_of}
+use Rattle.command_line.specs.Meant.{has_flag, matched, number_of}
 use Rattle.command_line.proofs.Rows.{Each, each_found}
 use Rattle.command_line.proofs.Walking.{IsFineStop}
 use Rattle.command_line.proofs.Ends.{IsFit, IsRight, leaf_right, top_right, given_there}
@@ -38,17 +38,17 @@ check_some (Some l) (Some r) None w asked a b c d = cc
 check_some (Some l) (Some r) (Some k) None asked a b c d = cc
 check_some (Some l) (Some r) (Some k) (Some w) asked a b c d = refl
 
-replay_some : (l r t : Option Text) → is_some l ≡ true → is_some r ≡ true → is_some t ≡ true → is_some (replay_from l r t) ≡ true
-replay_some None r t a b c = cc
-replay_some (Some l) None t a b c = cc
-replay_some (Some l) (Some r) None a b c = cc
-replay_some (Some l) (Some r) (Some t) a b c = refl
+replay_some : (l r t : Option Text) (tied : Bool) → is_some l ≡ true → is_some r ≡ true → is_some t ≡ true → is_some (replay_from l r t tied) ≡ true
+replay_some None r t tied a b c = cc
+replay_some (Some l) None t tied a b c = cc
+replay_some (Some l) (Some r) None tied a b c = cc
+replay_some (Some l) (Some r) (Some t) tied a b c = refl
 
-verify_some : (l r t : Option Text) → is_some l ≡ true → is_some r ≡ true → is_some t ≡ true → is_some (verify_from l r t) ≡ true
-verify_some None r t a b c = cc
-verify_some (Some l) None t a b c = cc
-verify_some (Some l) (Some r) None a b c = cc
-verify_some (Some l) (Some r) (Some t) a b c = refl
+verify_some : (l r t : Option Text) (tied : Bool) → is_some l ≡ true → is_some r ≡ true → is_some t ≡ true → is_some (verify_from l r t tied) ≡ true
+verify_some None r t tied a b c = cc
+verify_some (Some l) None t tied a b c = cc
+verify_some (Some l) (Some r) None tied a b c = cc
+verify_some (Some l) (Some r) (Some t) tied a b c = refl
 
 demo_some : (n k w : Option ℕ) → is_some n ≡ true → is_some k ≡ true → is_some w ≡ true → is_some (demo_from n k w) ≡ true
 demo_some None k w a b c = cc
@@ -87,10 +87,10 @@ check_right rows r =
     let left = given_there (codes "LEFT") rows (is_there (codes "LEFT") rows r.required.0) in
     let right = given_there (codes "RIGHT") rows (is_there (codes "RIGHT") rows r.required.1.0) in
     let depth = r.defaults (codes "k") (inr (inr (inl (refl, omega arith)))) in
-    let workers = r.defaults (codes "j") (inr (inr (inr (inl (refl, omega arith))))) in
+    let workers = r.defaults (codes "j") (inr (inr (inr (inr (inl (refl, omega arith)))))) in
     check_some (first_of (codes "LEFT") rows) (first_of (codes "RIGHT") rows) (number_of (codes "k") 1 most_depth rows) (number_of (codes "j") 1 most_workers rows) _
     (text_there (sub 0).rules (codes "LEFT") rows left r.read) (text_there (sub 0).rules (codes "RIGHT") rows right r.read)
-    (number_there (sub 0).rules (codes "k") rows (rule 0 2) 1 most_depth refl refl depth r.read) (number_there (sub 0).rules (codes "j") rows (rule 0 3) 1 most_workers refl refl workers r.read)
+    (number_there (sub 0).rules (codes "k") rows (rule 0 2) 1 most_depth refl refl depth r.read) (number_there (sub 0).rules (codes "j") rows (rule 0 4) 1 most_workers refl refl workers r.read)
 
 replay_right : (rows : List Row) → IsRight (sub 1) rows → is_some (matched (Some ((sub 1).name, rows))) ≡ true
 unfolding sec_app check_app replay_app verify_app demo_app
@@ -98,7 +98,7 @@ replay_right rows r =
     let left = given_there (codes "LEFT") rows (is_there (codes "LEFT") rows r.required.0) in
     let right = given_there (codes "RIGHT") rows (is_there (codes "RIGHT") rows r.required.1.0) in
     let trace = given_there (codes "TRACE") rows (is_there (codes "TRACE") rows r.required.1.1.0) in
-    replay_some (first_of (codes "LEFT") rows) (first_of (codes "RIGHT") rows) (first_of (codes "TRACE") rows)
+    replay_some (first_of (codes "LEFT") rows) (first_of (codes "RIGHT") rows) (first_of (codes "TRACE") rows) (has_flag (codes "tie") rows)
     (text_there (sub 1).rules (codes "LEFT") rows left r.read) (text_there (sub 1).rules (codes "RIGHT") rows right r.read) (text_there (sub 1).rules (codes "TRACE") rows trace r.read)
 
 verify_right : (rows : List Row) → IsRight (sub 2) rows → is_some (matched (Some ((sub 2).name, rows))) ≡ true
@@ -107,7 +107,7 @@ verify_right rows r =
     let left = given_there (codes "LEFT") rows (is_there (codes "LEFT") rows r.required.0) in
     let right = given_there (codes "RIGHT") rows (is_there (codes "RIGHT") rows r.required.1.0) in
     let cert = given_there (codes "CERT") rows (is_there (codes "CERT") rows r.required.1.1.0) in
-    verify_some (first_of (codes "LEFT") rows) (first_of (codes "RIGHT") rows) (first_of (codes "CERT") rows)
+    verify_some (first_of (codes "LEFT") rows) (first_of (codes "RIGHT") rows) (first_of (codes "CERT") rows) (has_flag (codes "tie") rows)
     (text_there (sub 2).rules (codes "LEFT") rows left r.read) (text_there (sub 2).rules (codes "RIGHT") rows right r.read) (text_there (sub 2).rules (codes "CERT") rows cert r.read)
 
 demo_right : (rows : List Row) → IsRight (sub 3) rows → is_some (matched (Some ((sub 3).name, rows))) ≡ true

@@ -1,8 +1,8 @@
 -- The lines of the usage text are those of the commands that are given to clap: all of this computes.
 use Rattle.std.proofs.Common.{refl, arith, codes}
 use Rattle.clap.proofs.OnLiterals.{clap_on_literals}
-use Rattle.command_line.specs.Asked.{most_depth, most_size, most_workers}
-use Rattle.command_line.specs.App.{sec_app, check_app, replay_app, verify_app, demo_app, check_line, replay_line, verify_line, demo_line, depth, workers, file, flag, name, size}
+use Rattle.command_line.specs.Asked.{most_depth, most_search_depth, most_size, most_workers}
+use Rattle.command_line.specs.App.{sec_app, check_app, replay_app, verify_app, demo_app, check_line, replay_line, verify_line, demo_line, depth, search_depth, workers, file, flag, name, size}
 use Rattle.command_line.proofs.Decimals.{number_passes}
 use Rattle.command_line.proofs.Leaves.{sub, rule}
 use Rattle.command_line.proofs.Standing.{IsFlagOption, IsValueOption, IsPositional}
@@ -14,13 +14,16 @@ check_is =
     let left_is : IsPositional (sub 0) 1 (name (codes "LEFT")) = record { rule = rule 0 0; taker = record { own = refl; same = refl; action = refl; range = refl; several = refl; most = refl; passes = λ t h. refl }; at = refl; last = refl } in
     let right_is : IsPositional (sub 0) 2 (name (codes "RIGHT")) = record { rule = rule 0 1; taker = record { own = refl; same = refl; action = refl; range = refl; several = refl; most = refl; passes = λ t h. refl }; at = refl; last = refl } in
     let depth_is : IsValueOption (sub 0) depth = record { rule = rule 0 2; taker = record { own = refl; same = refl; action = refl; range = refl; several = refl; most = refl; passes = λ t h. number_passes 1 most_depth t (omega arith) h }; met = λ p rows pending. refl; fine = λ p rows pending h. rw h refl } in
-    let workers_is : IsValueOption (sub 0) workers = record { rule = rule 0 3; taker = record { own = refl; same = refl; action = refl; range = refl; several = refl; most = refl; passes = λ t h. number_passes 1 most_workers t (omega arith) h }; met = λ p rows pending. refl; fine = λ p rows pending h. rw h refl } in
-    let classes_is : IsFlagOption (sub 0) (flag (codes "classes")) = record { rule = rule 0 4; setter = record { own = refl; same = refl; action = refl; range = refl; missing = refl; passes = refl }; met = λ p rows pending. refl; fine = λ p rows pending h. rw h refl } in
-    let stats_is : IsFlagOption (sub 0) (flag (codes "stats")) = record { rule = rule 0 5; setter = record { own = refl; same = refl; action = refl; range = refl; missing = refl; passes = refl }; met = λ p rows pending. refl; fine = λ p rows pending h. rw h refl } in
-    let trace_is : IsValueOption (sub 0) (file (codes "trace")) = record { rule = rule 0 6; taker = record { own = refl; same = refl; action = refl; range = refl; several = refl; most = refl; passes = λ t h. refl }; met = λ p rows pending. refl; fine = λ p rows pending h. rw h refl } in
-    let cert_is : IsValueOption (sub 0) (file (codes "cert")) = record { rule = rule 0 7; taker = record { own = refl; same = refl; action = refl; range = refl; several = refl; most = refl; passes = λ t h. refl }; met = λ p rows pending. refl; fine = λ p rows pending h. rw h refl } in
+    let search_depth_is : IsValueOption (sub 0) search_depth = record { rule = rule 0 3; taker = record { own = refl; same = refl; action = refl; range = refl; several = refl; most = refl; passes = λ t h. number_passes 1 most_search_depth t (omega arith) h }; met = λ p rows pending. refl; fine = λ p rows pending h. rw h refl } in
+    let workers_is : IsValueOption (sub 0) workers = record { rule = rule 0 4; taker = record { own = refl; same = refl; action = refl; range = refl; several = refl; most = refl; passes = λ t h. number_passes 1 most_workers t (omega arith) h }; met = λ p rows pending. refl; fine = λ p rows pending h. rw h refl } in
+    let classes_is : IsFlagOption (sub 0) (flag (codes "classes")) = record { rule = rule 0 5; setter = record { own = refl; same = refl; action = refl; range = refl; missing = refl; passes = refl }; met = λ p rows pending. refl; fine = λ p rows pending h. rw h refl } in
+    let stats_is : IsFlagOption (sub 0) (flag (codes "stats")) = record { rule = rule 0 6; setter = record { own = refl; same = refl; action = refl; range = refl; missing = refl; passes = refl }; met = λ p rows pending. refl; fine = λ p rows pending h. rw h refl } in
+    let trace_is : IsValueOption (sub 0) (file (codes "trace")) = record { rule = rule 0 7; taker = record { own = refl; same = refl; action = refl; range = refl; several = refl; most = refl; passes = λ t h. refl }; met = λ p rows pending. refl; fine = λ p rows pending h. rw h refl } in
+    let cert_is : IsValueOption (sub 0) (file (codes "cert")) = record { rule = rule 0 8; taker = record { own = refl; same = refl; action = refl; range = refl; several = refl; most = refl; passes = λ t h. refl }; met = λ p rows pending. refl; fine = λ p rows pending h. rw h refl } in
+    let tie_is : IsFlagOption (sub 0) (flag (codes "tie")) = record { rule = rule 0 9; setter = record { own = refl; same = refl; action = refl; range = refl; missing = refl; passes = refl }; met = λ p rows pending. refl; fine = λ p rows pending h. rw h refl } in
+    let least_is : IsFlagOption (sub 0) (flag (codes "least")) = record { rule = rule 0 10; setter = record { own = refl; same = refl; action = refl; range = refl; missing = refl; passes = refl }; met = λ p rows pending. refl; fine = λ p rows pending h. rw h refl } in
     record {
-      options = (depth_is, (workers_is, (classes_is, (stats_is, (trace_is, (cert_is, tt))))));
+      options = (depth_is, (search_depth_is, (workers_is, (classes_is, (stats_is, (trace_is, (cert_is, (tie_is, (least_is, tt)))))))));
       names = (left_is, (right_is, tt));
       distinct = refl;
       defaults = refl;
@@ -36,8 +39,9 @@ replay_is =
     let left_is : IsPositional (sub 1) 1 (name (codes "LEFT")) = record { rule = rule 1 0; taker = record { own = refl; same = refl; action = refl; range = refl; several = refl; most = refl; passes = λ t h. refl }; at = refl; last = refl } in
     let right_is : IsPositional (sub 1) 2 (name (codes "RIGHT")) = record { rule = rule 1 1; taker = record { own = refl; same = refl; action = refl; range = refl; several = refl; most = refl; passes = λ t h. refl }; at = refl; last = refl } in
     let trace_is : IsPositional (sub 1) 3 (name (codes "TRACE")) = record { rule = rule 1 2; taker = record { own = refl; same = refl; action = refl; range = refl; several = refl; most = refl; passes = λ t h. refl }; at = refl; last = refl } in
+    let tie_is : IsFlagOption (sub 1) (flag (codes "tie")) = record { rule = rule 1 3; setter = record { own = refl; same = refl; action = refl; range = refl; missing = refl; passes = refl }; met = λ p rows pending. refl; fine = λ p rows pending h. rw h refl } in
     record {
-      options = tt;
+      options = (tie_is, tt);
       names = (left_is, (right_is, (trace_is, tt)));
       distinct = refl;
       defaults = refl;
@@ -53,8 +57,9 @@ verify_is =
     let left_is : IsPositional (sub 2) 1 (name (codes "LEFT")) = record { rule = rule 2 0; taker = record { own = refl; same = refl; action = refl; range = refl; several = refl; most = refl; passes = λ t h. refl }; at = refl; last = refl } in
     let right_is : IsPositional (sub 2) 2 (name (codes "RIGHT")) = record { rule = rule 2 1; taker = record { own = refl; same = refl; action = refl; range = refl; several = refl; most = refl; passes = λ t h. refl }; at = refl; last = refl } in
     let cert_is : IsPositional (sub 2) 3 (name (codes "CERT")) = record { rule = rule 2 2; taker = record { own = refl; same = refl; action = refl; range = refl; several = refl; most = refl; passes = λ t h. refl }; at = refl; last = refl } in
+    let tie_is : IsFlagOption (sub 2) (flag (codes "tie")) = record { rule = rule 2 3; setter = record { own = refl; same = refl; action = refl; range = refl; missing = refl; passes = refl }; met = λ p rows pending. refl; fine = λ p rows pending h. rw h refl } in
     record {
-      options = tt;
+      options = (tie_is, tt);
       names = (left_is, (right_is, (cert_is, tt)));
       distinct = refl;
       defaults = refl;

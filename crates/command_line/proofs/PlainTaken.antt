@@ -5,10 +5,10 @@ use Rattle.clap.specs.Simple.{Shape, built}
 use Rattle.clap.specs.Walk.{Row, Text}
 use Rattle.clap.specs.Words.{fault_of, subcommand_of}
 use Rattle.clap.proofs.OnLiterals.{clap_on_literals}
-use Rattle.command_line.specs.Asked.{Asked, Values, check_of, demo_of, most_depth, most_size, most_workers, replay_of, verify_of}
+use Rattle.command_line.specs.Asked.{Asked, Values, check_of, demo_of, most_depth, most_search_depth, most_size, most_workers, replay_of, verify_of}
 use Rattle.command_line.specs.App.{sec_app, check_app, replay_app, verify_app, demo_app}
 use Rattle.command_line.specs.Meant.{is_taken, matched, meant, or_else, taken_command}
-use Rattle.command_line.specs.App.{Line, check_line, demo_line, depth, replay_line, size, verify_line, workers}
+use Rattle.command_line.specs.App.{Line, check_line, demo_line, depth, replay_line, search_depth, size, verify_line, workers}
 use Rattle.command_line.specs.Plain.{Given, asked_by, given_by, plain_command, values_given}
 use Rattle.command_line.proofs.Rows.{Each}
 use Rattle.command_line.proofs.Leaves.{sub}
@@ -62,12 +62,15 @@ check_says given good =
     let left = text_same c (codes "LEFT") given refl in
     let right = text_same c (codes "RIGHT") given refl in
     let k = option_same c (codes "k") given check_line depth 1 most_depth good refl refl refl (omega arith) refl in
+    let d = size_same c (codes "d") given check_line search_depth 1 most_search_depth good refl refl refl (omega arith) refl in
     let w = option_same c (codes "j") given check_line workers 1 most_workers good refl refl refl (omega arith) refl in
     let classes = flag_same c (codes "classes") given refl in
     let stats = flag_same c (codes "stats") given refl in
     let trace = text_same c (codes "trace") given refl in
     let cert = text_same c (codes "cert") given refl in
-    rw (left, right, k, w, classes, stats, trace, cert) refl
+    let tie = flag_same c (codes "tie") given refl in
+    let least = flag_same c (codes "least") given refl in
+    rw (left, right, k, d, w, classes, stats, trace, cert, tie, least) refl
 
 replay_says : (given : List Given) → Each (IsGood replay_line) given → matched (Some ((sub 1).name, end_rows (sub 1).rules given)) ≡ replay_of (values_given given)
 unfolding sec_app check_app replay_app verify_app demo_app
@@ -76,7 +79,8 @@ replay_says given good =
     let left = text_same c (codes "LEFT") given refl in
     let right = text_same c (codes "RIGHT") given refl in
     let third = text_same c (codes "TRACE") given refl in
-    rw (left, right, third) refl
+    let tie = flag_same c (codes "tie") given refl in
+    rw (left, right, third, tie) refl
 
 verify_says : (given : List Given) → Each (IsGood verify_line) given → matched (Some ((sub 2).name, end_rows (sub 2).rules given)) ≡ verify_of (values_given given)
 unfolding sec_app check_app replay_app verify_app demo_app
@@ -85,7 +89,8 @@ verify_says given good =
     let left = text_same c (codes "LEFT") given refl in
     let right = text_same c (codes "RIGHT") given refl in
     let third = text_same c (codes "CERT") given refl in
-    rw (left, right, third) refl
+    let tie = flag_same c (codes "tie") given refl in
+    rw (left, right, third, tie) refl
 
 demo_says : (given : List Given) → Each (IsGood demo_line) given → matched (Some ((sub 3).name, end_rows (sub 3).rules given)) ≡ demo_of (values_given given)
 unfolding sec_app check_app replay_app verify_app demo_app

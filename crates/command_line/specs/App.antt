@@ -7,7 +7,7 @@ use Rattle.clap.specs.declared.builder.action.ArgAction.TheVariants.{Set, SetTru
 use Rattle.clap.specs.declared.builder.command.Command.{Command}
 use Rattle.clap.specs.declared.builder.command.Command.TheViews.{out-Command as fields_of}
 use Rattle.clap.specs.declared.builder.value_parser.ValueParser.TheVariants as readers
-use Rattle.command_line.specs.Asked.{most_depth, most_size, most_workers}
+use Rattle.command_line.specs.Asked.{most_depth, most_search_depth, most_size, most_workers}
 
 -- how an argument is spelled: a name by its place, an option as `-k` or as `--trace`
 pub data Spelling : Type 0 where
@@ -21,11 +21,12 @@ pub data Value : Type 0 where
   Name : Value
   Number : ℕ → ℕ → Value
 
--- a name or an option of a command, with the id that clap knows it by
+-- a name or an option of a command, with the id that clap knows it by, and what an option is where it is left out
 pub record Argument : Type 0 where
   pub id : Text
   pub spelling : Spelling
   pub value : Value
+  pub default : List Text
 
 -- a line of the usage text
 pub record Line : Type 0 where
@@ -34,38 +35,41 @@ pub record Line : Type 0 where
   pub options : List Argument
 
 abbrev pub name : Text → Argument
-name id = record { id = id; spelling = Place; value = Name }
+name id = record { id = id; spelling = Place; value = Name; default = [] }
 
 abbrev pub size : Argument
-size = record { id = codes "N"; spelling = Place; value = Number 0 most_size }
+size = record { id = codes "N"; spelling = Place; value = Number 0 most_size; default = [] }
 
-abbrev pub number : Text → ℕ → ℕ → Argument
-number id letter most = record { id = id; spelling = Short letter; value = Number 1 most }
+abbrev pub number : Text → ℕ → ℕ → List Text → Argument
+number id letter most default = record { id = id; spelling = Short letter; value = Number 1 most; default = default }
 
 abbrev pub file : Text → Argument
-file id = record { id = id; spelling = Long id; value = Name }
+file id = record { id = id; spelling = Long id; value = Name; default = [] }
 
 abbrev pub flag : Text → Argument
-flag id = record { id = id; spelling = Long id; value = Flag }
+flag id = record { id = id; spelling = Long id; value = Flag; default = [] }
 
 abbrev pub depth : Argument
-depth = number (codes "k") 107 most_depth
+depth = number (codes "k") 107 most_depth (codes "1" ∷ [])
+
+abbrev pub search_depth : Argument
+search_depth = number (codes "d") 100 most_search_depth []
 
 abbrev pub workers : Argument
-workers = number (codes "j") 106 most_workers
+workers = number (codes "j") 106 most_workers (codes "1" ∷ [])
 
 abbrev pub check_line : Line
 check_line = record {
   command = codes "check";
   names = name (codes "LEFT") ∷ name (codes "RIGHT") ∷ [];
-  options = depth ∷ workers ∷ flag (codes "classes") ∷ flag (codes "stats") ∷ file (codes "trace") ∷ file (codes "cert") ∷ [];
+  options = depth ∷ search_depth ∷ workers ∷ flag (codes "classes") ∷ flag (codes "stats") ∷ file (codes "trace") ∷ file (codes "cert") ∷ flag (codes "tie") ∷ flag (codes "least") ∷ [];
 }
 
 abbrev pub replay_line : Line
-replay_line = record { command = codes "replay"; names = name (codes "LEFT") ∷ name (codes "RIGHT") ∷ name (codes "TRACE") ∷ []; options = [] }
+replay_line = record { command = codes "replay"; names = name (codes "LEFT") ∷ name (codes "RIGHT") ∷ name (codes "TRACE") ∷ []; options = flag (codes "tie") ∷ [] }
 
 abbrev pub verify_line : Line
-verify_line = record { command = codes "verify"; names = name (codes "LEFT") ∷ name (codes "RIGHT") ∷ name (codes "CERT") ∷ []; options = [] }
+verify_line = record { command = codes "verify"; names = name (codes "LEFT") ∷ name (codes "RIGHT") ∷ name (codes "CERT") ∷ []; options = flag (codes "tie") ∷ [] }
 
 abbrev pub demo_line : Line
 demo_line = record { command = codes "demo"; names = size ∷ []; options = depth ∷ workers ∷ [] }
@@ -86,13 +90,8 @@ valued (Number least most) r = record r { action = Some Set; parser = Some (read
 abbrev pub name_rule : Argument → Rule
 name_rule a = record (valued a.value (new_rule a.id)) { required = true }
 
--- the number of an option is 1 where it is left out
-abbrev pub defaults_of : Value → List Text
-defaults_of (Number least most) = codes "1" ∷ []
-defaults_of value = []
-
 abbrev pub option_rule : Argument → Rule
-option_rule a = record (spelled a.spelling (valued a.value (new_rule a.id))) { defaults = defaults_of a.value }
+option_rule a = record (spelled a.spelling (valued a.value (new_rule a.id))) { defaults = a.default }
 
 abbrev pub with_names : App → List Argument → App
 with_names app names = fold (λ a n. with_rule a (name_rule n)) app names

@@ -1,5 +1,5 @@
 -- What the words of a run ask for: a command, with its names as texts.
-use Rattle.std.specs.Prelude.{◌<◌, ◌≤◌, ℕ, Bool, List, Option, Some, None, codes, option_map}
+use Rattle.std.specs.Prelude.{◌<◌, ◌≤◌, ℕ, Bool, List, Option, Some, None, codes, max, option_map}
 use Rattle.command_line.specs.declared.command.Check.{Check}
 use Rattle.command_line.specs.declared.command.Replay.{Replay}
 use Rattle.command_line.specs.declared.command.Verify.{Verify}
@@ -11,21 +11,26 @@ pub record CheckAsked : Type 0 where
   pub left : List ℕ
   pub right : List ℕ
   pub k : ℕ
+  pub depth : ℕ
   pub workers : ℕ
   pub classes : Bool
   pub stats : Bool
   pub trace : Option (List ℕ)
   pub cert : Option (List ℕ)
+  pub tied : Bool
+  pub least : Bool
 
 pub record ReplayAsked : Type 0 where
   pub left : List ℕ
   pub right : List ℕ
   pub trace : List ℕ
+  pub tied : Bool
 
 pub record VerifyAsked : Type 0 where
   pub left : List ℕ
   pub right : List ℕ
   pub cert : List ℕ
+  pub tied : Bool
 
 pub data Asked : Type 0 where
   ForCheck : CheckAsked → Asked
@@ -34,13 +39,13 @@ pub data Asked : Type 0 where
   ForDemo : Demo → Asked
 
 abbrev pub check_asked : Check → CheckAsked
-check_asked c = record { left = c.left.now; right = c.right.now; k = c.k; workers = c.workers; classes = c.classes; stats = c.stats; trace = option_map (λ n. n.now) c.trace; cert = option_map (λ n. n.now) c.cert }
+check_asked c = record { left = c.left.now; right = c.right.now; k = c.k; depth = c.depth; workers = c.workers; classes = c.classes; stats = c.stats; trace = option_map (λ n. n.now) c.trace; cert = option_map (λ n. n.now) c.cert; tied = c.tied; least = c.least }
 
 abbrev pub replay_asked : Replay → ReplayAsked
-replay_asked c = record { left = c.left.now; right = c.right.now; trace = c.trace.now }
+replay_asked c = record { left = c.left.now; right = c.right.now; trace = c.trace.now; tied = c.tied }
 
 abbrev pub verify_asked : Verify → VerifyAsked
-verify_asked c = record { left = c.left.now; right = c.right.now; cert = c.cert.now }
+verify_asked c = record { left = c.left.now; right = c.right.now; cert = c.cert.now; tied = c.tied }
 
 -- what a command asks for
 abbrev pub asked_of : Command → Asked
@@ -49,9 +54,12 @@ asked_of (commands.Replay c) = ForReplay (replay_asked c)
 asked_of (commands.Verify c) = ForVerify (verify_asked c)
 asked_of (commands.Demo d) = ForDemo d
 
--- the greatest depth, the most workers, and the greatest size of a demo
+-- the greatest depth of the induction and of the search for a difference, the most workers, and the greatest size of a demo
 abbrev pub most_depth : ℕ
 most_depth = 16
+
+abbrev pub most_search_depth : ℕ
+most_search_depth = 64
 
 abbrev pub most_workers : ℕ
 most_workers = 64
@@ -59,10 +67,12 @@ most_workers = 64
 abbrev pub most_size : ℕ
 most_size = 100000
 
--- the depth and the workers of `check` are within their limits
+-- the depths and the workers of `check` are within their limits
 pub record IsCheckWithin (c : CheckAsked) : Type 0 where
   pub some : 0 < c.k
   pub few : c.k ≤ most_depth
+  pub no_less : c.k ≤ c.depth
+  pub shallow : c.depth ≤ most_search_depth
   pub workers : (0 < c.workers) × (c.workers ≤ most_workers)
 
 -- and those of `demo`, with its size
@@ -79,13 +89,19 @@ IsWithin (ForReplay c) = Unit {0}
 IsWithin (ForVerify c) = Unit {0}
 IsWithin (ForDemo d) = IsDemoWithin d
 
--- the values of arguments, by their ids: a text, a number that has to be there, an option's number within limits, and whether a
--- flag was there
+-- the values of arguments, by their ids: a text, a number that has to be there, an option's number within limits, one that may be
+-- left out, and whether a flag was there
 pub record Values : Type 0 where
   pub text : List ℕ → Option (List ℕ)
   pub size : List ℕ → ℕ → Option ℕ
   pub number : List ℕ → ℕ → Option ℕ
+  pub optional : List ℕ → ℕ → Option ℕ
   pub flag : List ℕ → Bool
+
+-- a difference is looked for in the first k frames, or in more where as many are asked for
+abbrev pub depth_from : ℕ → Option ℕ → ℕ
+depth_from k None = k
+depth_from k (Some d) = max k d
 
 -- both names and both numbers are there
 abbrev pub check_from : Option (List ℕ) → Option (List ℕ) → Option ℕ → Option ℕ → (List ℕ → List ℕ → ℕ → ℕ → CheckAsked) → Option Asked
@@ -98,26 +114,29 @@ check_of v = check_from (v.text (codes "LEFT")) (v.text (codes "RIGHT")) (v.numb
   left = left;
   right = right;
   k = k;
+  depth = depth_from k (v.optional (codes "d") most_search_depth);
   workers = workers;
   classes = v.flag (codes "classes");
   stats = v.flag (codes "stats");
   trace = v.text (codes "trace");
   cert = v.text (codes "cert");
+  tied = v.flag (codes "tie");
+  least = v.flag (codes "least");
 })
 
-abbrev pub replay_from : Option (List ℕ) → Option (List ℕ) → Option (List ℕ) → Option Asked
-replay_from (Some left) (Some right) (Some trace) = Some (ForReplay (record { left = left; right = right; trace = trace }))
-replay_from left right trace = None
+abbrev pub replay_from : Option (List ℕ) → Option (List ℕ) → Option (List ℕ) → Bool → Option Asked
+replay_from (Some left) (Some right) (Some trace) tied = Some (ForReplay (record { left = left; right = right; trace = trace; tied = tied }))
+replay_from left right trace tied = None
 
 abbrev pub replay_of : Values → Option Asked
-replay_of v = replay_from (v.text (codes "LEFT")) (v.text (codes "RIGHT")) (v.text (codes "TRACE"))
+replay_of v = replay_from (v.text (codes "LEFT")) (v.text (codes "RIGHT")) (v.text (codes "TRACE")) (v.flag (codes "tie"))
 
-abbrev pub verify_from : Option (List ℕ) → Option (List ℕ) → Option (List ℕ) → Option Asked
-verify_from (Some left) (Some right) (Some cert) = Some (ForVerify (record { left = left; right = right; cert = cert }))
-verify_from left right cert = None
+abbrev pub verify_from : Option (List ℕ) → Option (List ℕ) → Option (List ℕ) → Bool → Option Asked
+verify_from (Some left) (Some right) (Some cert) tied = Some (ForVerify (record { left = left; right = right; cert = cert; tied = tied }))
+verify_from left right cert tied = None
 
 abbrev pub verify_of : Values → Option Asked
-verify_of v = verify_from (v.text (codes "LEFT")) (v.text (codes "RIGHT")) (v.text (codes "CERT"))
+verify_of v = verify_from (v.text (codes "LEFT")) (v.text (codes "RIGHT")) (v.text (codes "CERT")) (v.flag (codes "tie"))
 
 abbrev pub demo_from : Option ℕ → Option ℕ → Option ℕ → Option Asked
 demo_from (Some n) (Some k) (Some workers) = Some (ForDemo (record { n = n; k = k; workers = workers }))

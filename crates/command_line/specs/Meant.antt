@@ -28,6 +28,7 @@ values_matched rows = record {
   text = λ id. first_of id rows;
   size = λ id most. number_of id 0 most rows;
   number = λ id most. number_of id 1 most rows;
+  optional = λ id most. number_of id 1 most rows;
   flag = λ id. has_flag id rows;
 }
 

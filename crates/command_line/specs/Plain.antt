@@ -115,6 +115,7 @@ values_given given = record {
   text = λ id. text_of id given;
   size = λ id most. option_map (digits_value 10) (text_of id given);
   number = λ id most. Some (number_or_one (text_of id given));
+  optional = λ id most. option_map (digits_value 10) (text_of id given);
   flag = λ id. is_on (text_of id given);
 }
 

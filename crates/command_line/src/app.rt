@@ -1,9 +1,9 @@
 // The command that is given to clap: a required subcommand for each line of the usage text. Its own help is clap's.
-ghost use Rattle.std.specs.Prelude.{◌≡◌, codes, false, IfOk};
+ghost use Rattle.std.specs.Prelude.{◌≡◌, [], ◌∷◌, codes, false, IfOk};
 ghost use Rattle.clap.specs.Words.{rule_of};
-ghost use Rattle.command_line.specs.App.{name, size, number, depth, workers, file, flag, name_rule, option_rule, check_app, replay_app, verify_app, demo_app, sec_app, IsCommand};
+ghost use Rattle.command_line.specs.App.{name, size, number, depth, search_depth, workers, file, flag, name_rule, option_rule, check_app, replay_app, verify_app, demo_app, sec_app, IsCommand};
 
-use crate::command::{MOST_DEPTH, MOST_SIZE, MOST_WORKERS};
+use crate::command::{MOST_DEPTH, MOST_SEARCH_DEPTH, MOST_SIZE, MOST_WORKERS};
 use clap::builder::ValueParser;
 use clap::{Arg, ArgAction, Command};
 use std::alloc::{AllocError, Global};
@@ -24,16 +24,15 @@ fn size_arg<'a>(alloc: Global) -> Arg<'a>
     name_arg(alloc, "N").value_parser(ValueParser::unsigned(0, MOST_SIZE as u64))
 }
 
-// An option with a number, which is 1 where the option is left out.
+// An option with a number from 1 on.
 fn number_arg<'a>(alloc: Global, id: &'a str, letter: char, most: u32) -> Arg<'a>
-    ensures rule { rule_of result ≡ option_rule (number id.entry.now letter most) }
+    ensures rule { rule_of result ≡ option_rule (number id.entry.now letter most []) }
     ensures local { result.global ≡ false }
 {
     Arg::new(alloc, id)
         .short(letter)
         .action(ArgAction::Set)
         .value_parser(ValueParser::unsigned(1, most as u64))
-        .default_value("1")
 }
 
 // The depth of the induction.
@@ -41,7 +40,15 @@ fn depth_arg<'a>(alloc: Global) -> Arg<'a>
     ensures rule { rule_of result ≡ option_rule depth }
     ensures local { result.global ≡ false }
 {
-    number_arg(alloc, "k", 'k', MOST_DEPTH)
+    number_arg(alloc, "k", 'k', MOST_DEPTH).default_value("1")
+}
+
+// In how many frames a difference is looked for.
+fn search_depth_arg<'a>(alloc: Global) -> Arg<'a>
+    ensures rule { rule_of result ≡ option_rule search_depth }
+    ensures local { result.global ≡ false }
+{
+    number_arg(alloc, "d", 'd', MOST_SEARCH_DEPTH)
 }
 
 // How many workers are asked for.
@@ -49,7 +56,7 @@ fn workers_arg<'a>(alloc: Global) -> Arg<'a>
     ensures rule { rule_of result ≡ option_rule workers }
     ensures local { result.global ≡ false }
 {
-    number_arg(alloc, "j", 'j', MOST_WORKERS)
+    number_arg(alloc, "j", 'j', MOST_WORKERS).default_value("1")
 }
 
 // An option with the name of a file.
@@ -74,11 +81,14 @@ fn check_command<'a>(alloc: Global) -> Result<Command<'a>, AllocError>
         .arg(name_arg(alloc, "LEFT"))?
         .arg(name_arg(alloc, "RIGHT"))?
         .arg(depth_arg(alloc))?
+        .arg(search_depth_arg(alloc))?
         .arg(workers_arg(alloc))?
         .arg(flag_arg(alloc, "classes"))?
         .arg(flag_arg(alloc, "stats"))?
         .arg(file_arg(alloc, "trace"))?
-        .arg(file_arg(alloc, "cert"))
+        .arg(file_arg(alloc, "cert"))?
+        .arg(flag_arg(alloc, "tie"))?
+        .arg(flag_arg(alloc, "least"))
 }
 
 fn replay_command<'a>(alloc: Global) -> Result<Command<'a>, AllocError>
@@ -87,7 +97,8 @@ fn replay_command<'a>(alloc: Global) -> Result<Command<'a>, AllocError>
     Command::new(alloc, "replay")
         .arg(name_arg(alloc, "LEFT"))?
         .arg(name_arg(alloc, "RIGHT"))?
-        .arg(name_arg(alloc, "TRACE"))
+        .arg(name_arg(alloc, "TRACE"))?
+        .arg(flag_arg(alloc, "tie"))
 }
 
 fn verify_command<'a>(alloc: Global) -> Result<Command<'a>, AllocError>
@@ -96,7 +107,8 @@ fn verify_command<'a>(alloc: Global) -> Result<Command<'a>, AllocError>
     Command::new(alloc, "verify")
         .arg(name_arg(alloc, "LEFT"))?
         .arg(name_arg(alloc, "RIGHT"))?
-        .arg(name_arg(alloc, "CERT"))
+        .arg(name_arg(alloc, "CERT"))?
+        .arg(flag_arg(alloc, "tie"))
 }
 
 fn demo_command<'a>(alloc: Global) -> Result<Command<'a>, AllocError>

@@ -2,6 +2,8 @@
 
 /// The greatest depth of the induction.
 pub(crate) const MOST_DEPTH: u32 = 16;
+/// The greatest depth of the search for a difference.
+pub(crate) const MOST_SEARCH_DEPTH: u32 = 64;
 /// The most workers that may be asked for.
 pub(crate) const MOST_WORKERS: u32 = 64;
 /// The greatest size of a demo.
@@ -14,6 +16,8 @@ pub struct Check<'w> {
     pub right: &'w str,
     /// The depth of the induction.
     pub k: u32,
+    /// In how many frames a difference is looked for: no fewer than k.
+    pub depth: u32,
     /// How many workers are asked for.
     pub workers: u32,
     /// Whether the classes are printed.
@@ -24,6 +28,10 @@ pub struct Check<'w> {
     pub trace: Option<&'w str>,
     /// Where a certificate is stored.
     pub cert: Option<&'w str>,
+    /// Whether the free latches of both netlists are tied, in their order.
+    pub tied: bool,
+    /// Whether the trace of a difference is that of its least run.
+    pub least: bool,
 }
 
 /// The words of `replay`.
@@ -32,6 +40,8 @@ pub struct Replay<'w> {
     pub left: &'w str,
     pub right: &'w str,
     pub trace: &'w str,
+    /// Whether the free latches are tied.
+    pub tied: bool,
 }
 
 /// The words of `verify`.
@@ -40,6 +50,8 @@ pub struct Verify<'w> {
     pub left: &'w str,
     pub right: &'w str,
     pub cert: &'w str,
+    /// Whether the free latches are tied.
+    pub tied: bool,
 }
 
 /// The words of `demo`.

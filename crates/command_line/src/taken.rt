@@ -1,13 +1,14 @@
 // The words as clap takes them: what its matches say becomes the command.
 ghost use Rattle.std.specs.Prelude.{◌≡◌, ◌≤◌, IfErr, IfOk, IfSome, MatchResult, None, Some, false, option_map, true};
 ghost use Rattle.clap.specs.Words.{first_of, found_of, rows_of, subcommand_rows_of};
-ghost use Rattle.command_line.specs.Asked.{asked_of, IsWithin, check_of, demo_of, replay_of, verify_of};
+ghost use Rattle.command_line.specs.Asked.{asked_of, IsWithin, check_of, depth_from, demo_of, replay_of, verify_of};
 ghost use Rattle.command_line.specs.Meant.{number_of, has_flag, values_matched, matched, is_taken, taken_command};
 ghost use Rattle.command_line.specs.Plain.{texts};
 
 use crate::app::sec_command;
 use crate::command::{
-    Check, Command, Demo, MOST_DEPTH, MOST_SIZE, MOST_WORKERS, Replay, Unread, Verify,
+    Check, Command, Demo, MOST_DEPTH, MOST_SEARCH_DEPTH, MOST_SIZE, MOST_WORKERS, Replay, Unread,
+    Verify,
 };
 use clap::ArgMatches;
 use clap::error::ErrorKind;
@@ -43,6 +44,16 @@ fn has_flag(found: &ArgMatches, id: &str) -> bool
     }
 }
 
+// In how many frames a difference is looked for: in the first k, or in more where as many are asked for.
+fn depth_from(k: u32, asked: Option<u32>) -> u32
+    ensures { result ≡ depth_from k asked }
+{
+    match asked {
+        Some(depth) => depth.max(k),
+        None => k,
+    }
+}
+
 fn check_of<'w>(found: &ArgMatches<'w>) -> Option<Command<'w>>
     ensures command { option_map asked_of result ≡ check_of (values_matched (rows_of (found_of found.now))) }
     ensures within { IfSome result (λ c. IsWithin (asked_of c)) }
@@ -50,16 +61,20 @@ fn check_of<'w>(found: &ArgMatches<'w>) -> Option<Command<'w>>
     let left = text_of(found, "LEFT")?;
     let right = text_of(found, "RIGHT")?;
     let k = number_of(found, "k", 1, MOST_DEPTH)?;
+    let depth = depth_from(k, number_of(found, "d", 1, MOST_SEARCH_DEPTH));
     let workers = number_of(found, "j", 1, MOST_WORKERS)?;
     Some(Command::Check(Check {
         left,
         right,
         k,
+        depth,
         workers,
         classes: has_flag(found, "classes"),
         stats: has_flag(found, "stats"),
         trace: text_of(found, "trace"),
         cert: text_of(found, "cert"),
+        tied: has_flag(found, "tie"),
+        least: has_flag(found, "least"),
     }))
 }
 
@@ -70,7 +85,12 @@ fn replay_of<'w>(found: &ArgMatches<'w>) -> Option<Command<'w>>
     let left = text_of(found, "LEFT")?;
     let right = text_of(found, "RIGHT")?;
     let trace = text_of(found, "TRACE")?;
-    Some(Command::Replay(Replay { left, right, trace }))
+    Some(Command::Replay(Replay {
+        left,
+        right,
+        trace,
+        tied: has_flag(found, "tie"),
+    }))
 }
 
 fn verify_of<'w>(found: &ArgMatches<'w>) -> Option<Command<'w>>
@@ -80,7 +100,12 @@ fn verify_of<'w>(found: &ArgMatches<'w>) -> Option<Command<'w>>
     let left = text_of(found, "LEFT")?;
     let right = text_of(found, "RIGHT")?;
     let cert = text_of(found, "CERT")?;
-    Some(Command::Verify(Verify { left, right, cert }))
+    Some(Command::Verify(Verify {
+        left,
+        right,
+        cert,
+        tied: has_flag(found, "tie"),
+    }))
 }
 
 fn demo_of<'w>(found: &ArgMatches<'w>) -> Option<Command<'w>>

@@ -543,7 +543,7 @@ fn seven_workers_tell_the_same_each_time(rt: HostRuntime) -> Result<(), Fail> {
 fn words_that_are_no_command(rt: HostRuntime) -> Result<(), Fail> {
     let alloc = rt.alloc();
     let usage =
-        "usage: sec check LEFT RIGHT [-k K] [-j J] [--classes] [--stats] [--trace FILE] [--cert FILE]\n       sec replay LEFT RIGHT TRACE\n       sec verify LEFT RIGHT CERT\n       sec demo N [-k K] [-j J]\n";
+        "usage: sec check LEFT RIGHT [-k K] [-d D] [-j J] [--classes] [--stats] [--trace FILE] [--cert FILE] [--tie] [--least]\n       sec replay LEFT RIGHT TRACE [--tie]\n       sec verify LEFT RIGHT CERT [--tie]\n       sec demo N [-k K] [-j J]\n";
     for words in [
         "sec",
         "sec help",
@@ -560,6 +560,10 @@ fn words_that_are_no_command(rt: HostRuntime) -> Result<(), Fail> {
         "sec check left right -j 65",
         "sec check left right --classes --classes",
         "sec check left right --stats --stats",
+        "sec check left right -d 65",
+        "sec check left right --tie --tie",
+        "sec replay left right trace --least",
+        "sec demo 1 --tie",
         "sec check left right --trace -k",
         "sec replay left right",
         "sec replay left right trace -k 1",
@@ -766,6 +770,204 @@ fn differences_are_shown_by_some_run(rt: HostRuntime) -> Result<(), Fail> {
     Ok(())
 }
 
+#[test]
+fn differences_are_sought_deeper_than_the_induction(rt: HostRuntime) -> Result<(), Fail> {
+    let alloc = rt.alloc();
+    let shallow = "undecided k=1 signals=12 classes=9 unpaired=0\n";
+    let at_one = "different k=1 frame=1 output=0\n1\nb0\n0\n\n\n.\n";
+    let at_k = "different k=2 frame=1 output=0\n1\nb0\n0\n\n\n.\n";
+    let ring = "undecided k=1 signals=5 classes=5 unpaired=0\n";
+    let rows = [
+        case("sec check left right -d 2", TOGGLE, LOW, 1, at_one, ""),
+        case("sec check left right -d 2 -j 3", TOGGLE, LOW, 1, at_one, ""),
+        case("sec check -k 2 left right -d 1", TOGGLE, LOW, 1, at_k, ""),
+        case(
+            "sec check -k 2 left right -d 1 -j 3",
+            TOGGLE,
+            LOW,
+            1,
+            at_k,
+            "",
+        ),
+        case("sec check left right -d 2", DELAY, MASKED, 2, shallow, ""),
+        case(
+            "sec check left right -d 2 -j 3",
+            DELAY,
+            MASKED,
+            2,
+            shallow,
+            "",
+        ),
+        case("sec check left right -d 64", LOW, RING, 2, ring, ""),
+        case("sec check left right -d 64 -j 3", LOW, RING, 2, ring, ""),
+    ];
+    for row in rows.iter() {
+        assert!(rt; answers_so(&rt, alloc, row)?);
+    }
+    // The first input is 0; the others are free.
+    let four = [
+        "different k=1 frame=2 output=0\n1\nb0\n0000\n0\n0\n0\n.\n",
+        "different k=1 frame=2 output=0\n1\nb0\n0000\n0\n0\n1\n.\n",
+        "different k=1 frame=2 output=0\n1\nb0\n0000\n0\n1\n0\n.\n",
+        "different k=1 frame=2 output=0\n1\nb0\n0000\n0\n1\n1\n.\n",
+    ];
+    for words in [
+        "sec check left right -d 3",
+        "sec check left right -d 3 -j 3",
+    ] {
+        assert!(rt; differs_as(&rt, alloc, words, DELAY, MASKED, &four)?);
+    }
+    Ok(())
+}
+
+// A latch that starts free and keeps its bit.
+const FREE: &str = "aag 1 0 1 1 0\n2 2 2\n2\n";
+
+// The certificate of two such latches that are tied.
+const TIED: &str =
+    "seccert 2 k=1 signals=3 tie=1\nclass l1 r1\nbase r1\n-2 0 3 6 5 0\n0 7 2 6 4 0\nstep r1\n-2 0 4 8 6 11 10 0\n0 12 3 7 5 11 9 0\nend\n";
+
+// A row with this third file.
+fn with_third(third: &'static str, row: Row) -> Row {
+    Row {
+        trace: third,
+        ..row
+    }
+}
+
+#[test]
+fn free_latches_may_be_tied(rt: HostRuntime) -> Result<(), Fail> {
+    let alloc = rt.alloc();
+    let two = "equivalent k=1 signals=3 classes=2\n";
+    let apart = "sec: free latches differ: 0 and 1\n";
+    let check = "sec check left right --tie";
+    let replay = "sec replay left right trace --tie";
+    let verify = "sec verify left right trace --tie";
+    let shown = "differs frame=0 output=0\n";
+    let rows = [
+        case(check, FREE, FREE, 0, two, ""),
+        case("sec check --tie left right -j 3", FREE, FREE, 0, two, ""),
+        case(check, TOGGLE, FREE, 4, "", apart),
+        case(replay, TOGGLE, FREE, 4, "", apart),
+        case(verify, TOGGLE, FREE, 4, "", apart),
+        case(
+            check,
+            LOW,
+            "aag 1 1 0 0 0\n2\n",
+            4,
+            "",
+            "sec: inputs differ: 0 and 1\n",
+        ),
+        with_third(
+            "1\nb0\n01\n\n.\n",
+            case(replay, FREE, FREE, 4, "", "sec: trace: tie at line 3\n"),
+        ),
+        with_third(
+            "1\nb0\n01\n\n.\n",
+            case("sec replay left right trace", FREE, FREE, 1, shown, ""),
+        ),
+        with_third(
+            "1\nb0\n11\n\n.\n",
+            case(replay, FREE, FREE, 0, "agrees frames=1\n", ""),
+        ),
+        with_third(TIED, case(verify, FREE, FREE, 0, "verified\n", "")),
+        with_third(
+            TIED,
+            case(
+                "sec verify left right trace",
+                FREE,
+                FREE,
+                4,
+                "",
+                "sec: trace: tie at line 1\n",
+            ),
+        ),
+    ];
+    for row in rows.iter() {
+        assert!(rt; answers_so(&rt, alloc, row)?);
+    }
+    let made = case(
+        "sec check left right --tie --cert made",
+        FREE,
+        FREE,
+        0,
+        two,
+        "",
+    );
+    let verified = case(
+        "sec verify --tie left right made",
+        FREE,
+        FREE,
+        0,
+        "verified\n",
+        "",
+    );
+    assert!(rt; stores_what_verifies(&rt, alloc, &made, &verified)?);
+    Ok(())
+}
+
+#[test]
+fn the_least_run_is_shown_where_it_is_asked_for(rt: HostRuntime) -> Result<(), Fail> {
+    let alloc = rt.alloc();
+    let input = "aag 1 1 0 1 0\n2\n2\n";
+    let turned = "aag 1 1 0 1 0\n2\n3\n";
+    let start = "different k=1 frame=0 output=0\n1\nb0\n01\n\n.\n";
+    let first = "different k=1 frame=0 output=0\n1\nb0\n\n0\n.\n";
+    let third = "different k=3 frame=2 output=0\n1\nb0\n0000\n0\n0\n0\n.\n";
+    let open = "undecided k=1 signals=2 classes=2 unpaired=0\n";
+    let rows = [
+        case("sec check left right --least", FREE, FREE, 1, start, ""),
+        case(
+            "sec check left right --least -j 3",
+            FREE,
+            FREE,
+            1,
+            start,
+            "",
+        ),
+        case("sec check left right --least", input, turned, 1, first, ""),
+        case(
+            "sec check left right -j 3 --least",
+            input,
+            turned,
+            1,
+            first,
+            "",
+        ),
+        case(
+            "sec check left right -k 3 --least",
+            DELAY,
+            MASKED,
+            1,
+            third,
+            "",
+        ),
+        case(
+            "sec check --least left right -k 3 -j 3",
+            DELAY,
+            MASKED,
+            1,
+            third,
+            "",
+        ),
+        case("sec check left right --least", TOGGLE, LOW, 2, open, ""),
+    ];
+    for row in rows.iter() {
+        assert!(rt; answers_so(&rt, alloc, row)?);
+    }
+    let made = case(
+        "sec check left right --least --trace made",
+        FREE,
+        FREE,
+        1,
+        start,
+        "",
+    );
+    let shelf = run_so(&rt, alloc, &made, Vec::new(alloc), Vec::new(alloc))?;
+    assert!(rt; holds(&shelf, "made", b"1\nb0\n01\n\n.\n"));
+    Ok(())
+}
+
 // What replaying this text on the toggling latch and the constant answers.
 fn replay(trace: &'static str, status: u8, out: &'static str, err: &'static str) -> Row {
     Row {
@@ -863,7 +1065,7 @@ fn sure_devices_are_answered(rt: HostRuntime) -> Result<(), Fail> {
 
 // The certificate of two toggling latches, line by line.
 const CERT: &str =
-    "seccert 1 k=1 signals=3\nclass l1 r1\nbase r1\n0 6 2 3 4 0\nstep r1\n-2 0 3 8 5 11 9 0\n0 12 4 7 6 11 10 0\nend\n";
+    "seccert 2 k=1 signals=3 tie=0\nclass l1 r1\nbase r1\n0 6 2 3 4 0\nstep r1\n-2 0 3 8 5 11 9 0\n0 12 4 7 6 11 10 0\nend\n";
 
 // What reading this text as a certificate of two toggling latches answers.
 fn certified(cert: &'static str, status: u8, out: &'static str, err: &'static str) -> Row {
@@ -884,34 +1086,41 @@ fn certified(cert: &'static str, status: u8, out: &'static str, err: &'static st
 fn certificates_are_verified(rt: HostRuntime) -> Result<(), Fail> {
     let alloc = rt.alloc();
     assert!(rt; answers_so(&rt, alloc, &certified(CERT, 0, "verified\n", ""))?);
+    let before =
+        "seccert 1 k=1 signals=3\nclass l1 r1\nbase r1\n0 6 2 3 4 0\nstep r1\n-2 0 3 8 5 11 9 0\n0 12 4 7 6 11 10 0\nend\n";
+    assert!(rt; answers_so(&rt, alloc, &certified(before, 0, "verified\n", ""))?);
     for (cert, err) in [
         (
-            "seccert 1 k=1 signals=3\nclass l1 r1\nbase r1\n0 6 2 3 4 0\nstep r1\n0 12 4 7 6 11 10 0\nend\n",
+            "seccert 2 k=1 signals=3 tie=0\nclass l1 r1\nbase r1\n0 6 2 3 4 0\nstep r1\n0 12 4 7 6 11 10 0\nend\n",
             "sec: trace: derivation at line 6\n",
         ),
         (
-            "seccert 1 k=1 signals=3\nclass l1 r1\nbase r1\n0 6 2 3 4 0\nstep r1\n",
+            "seccert 2 k=1 signals=3 tie=0\nclass l1 r1\nbase r1\n0 6 2 3 4 0\nstep r1\n",
             "sec: trace: truncated at line 6\n",
         ),
         (
-            "seccert 1 k=1 signals=3\nbase r1\n0 6 2 3 4 0\nstep r1\n-2 0 3 8 5 11 9 0\n0 12 4 7 6 11 10 0\nend\n",
+            "seccert 2 k=1 signals=3 tie=0\nbase r1\n0 6 2 3 4 0\nstep r1\n-2 0 3 8 5 11 9 0\n0 12 4 7 6 11 10 0\nend\n",
             "sec: trace: outputs at line 1\n",
         ),
         (
-            "seccert 1 k=1 signals=3\nclass l1 r1\nbase l1\n0 6 2 3 4 0\n",
+            "seccert 2 k=1 signals=3 tie=0\nclass l1 r1\nbase l1\n0 6 2 3 4 0\n",
             "sec: trace: order at line 3\n",
         ),
         (
-            "seccert 1 k=1 signals=3\nclass r1 l1\nbase r1\n",
+            "seccert 2 k=1 signals=3 tie=0\nclass r1 l1\nbase r1\n",
             "sec: trace: class at line 2\n",
         ),
         (
-            "seccert 1 k=1 signals=4\n",
+            "seccert 2 k=1 signals=4 tie=0\n",
             "sec: trace: signals at line 1\n",
         ),
         (
-            "seccert 1 k=17 signals=3\n",
+            "seccert 2 k=17 signals=3 tie=0\n",
             "sec: trace: limit at line 1\n",
+        ),
+        (
+            "seccert 2 k=1 signals=3 tie=1\n",
+            "sec: trace: tie at line 1\n",
         ),
         ("seccert 2\n", "sec: trace: line at line 1\n"),
         ("", "sec: trace: truncated at line 1\n"),

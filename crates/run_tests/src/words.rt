@@ -18,6 +18,20 @@ fn named(alloc: Global, option: &str, name: Option<&str>) -> Result<String, Allo
     }
 }
 
+// Whether free latches are tied.
+fn tied(is_tied: bool) -> &'static str {
+    if is_tied { " tie" } else { "" }
+}
+
+// The depth of the search, where it is not that of the induction.
+fn deeper(alloc: Global, c: &Check) -> Result<String, AllocError> {
+    let depth = c.depth;
+    if depth == c.k {
+        return format!(in alloc; "");
+    }
+    format!(in alloc; " d={depth}")
+}
+
 // What the words give, with each name between < and >.
 fn said(alloc: Global, text: &str) -> Result<String, AllocError> {
     let words = words_of(alloc, text)?;
@@ -27,18 +41,21 @@ fn said(alloc: Global, text: &str) -> Result<String, AllocError> {
             let stats = if c.stats { " stats" } else { "" };
             let trace = named(alloc, "trace", c.trace)?;
             let cert = named(alloc, "cert", c.cert)?;
+            let deeper = deeper(alloc, &c)?;
+            let tied = tied(c.tied);
+            let least = if c.least { " least" } else { "" };
             let (left, right, k, workers) = (c.left, c.right, c.k, c.workers);
             format!(in alloc;
-                "check <{left}> <{right}> k={k} j={workers}{classes}{stats}{trace}{cert}"
+                "check <{left}> <{right}> k={k}{deeper} j={workers}{classes}{stats}{trace}{cert}{tied}{least}"
             )
         }
         Ok(Command::Replay(r)) => {
-            let (left, right, trace) = (r.left, r.right, r.trace);
-            format!(in alloc; "replay <{left}> <{right}> <{trace}>")
+            let (left, right, trace, tied) = (r.left, r.right, r.trace, tied(r.tied));
+            format!(in alloc; "replay <{left}> <{right}> <{trace}>{tied}")
         }
         Ok(Command::Verify(v)) => {
-            let (left, right, cert) = (v.left, v.right, v.cert);
-            format!(in alloc; "verify <{left}> <{right}> <{cert}>")
+            let (left, right, cert, tied) = (v.left, v.right, v.cert, tied(v.tied));
+            format!(in alloc; "verify <{left}> <{right}> <{cert}>{tied}")
         }
         Ok(Command::Demo(d)) => {
             let (n, k, workers) = (d.n, d.k, d.workers);
@@ -55,10 +72,20 @@ fn plain_words_mean_what_they_say(rt: HostRuntime) -> Result<(), Fail> {
         ("sec check a b", "check <a> <b> k=1 j=1"),
         ("sec check -k 2 a b", "check <a> <b> k=2 j=1"),
         ("sec check a -j 3 b", "check <a> <b> k=1 j=3"),
+        ("sec check a b -d 64", "check <a> <b> k=1 d=64 j=1"),
+        ("sec check -d 2 a -k 3 b", "check <a> <b> k=3 j=1"),
+        ("sec check -k 3 a b -d 4", "check <a> <b> k=3 d=4 j=1"),
         (
             "sec check a b -k 16 -j 64 --classes --stats --trace t --cert c",
             "check <a> <b> k=16 j=64 classes stats trace=<t> cert=<c>",
         ),
+        ("sec check a --least b", "check <a> <b> k=1 j=1 least"),
+        (
+            "sec check a b --cert c --tie --least",
+            "check <a> <b> k=1 j=1 cert=<c> tie least",
+        ),
+        ("sec replay --tie a b t", "replay <a> <b> <t> tie"),
+        ("sec verify a b c --tie", "verify <a> <b> <c> tie"),
         (
             "sec check --cert c --trace t a --stats --classes b -j 64 -k 16",
             "check <a> <b> k=16 j=64 classes stats trace=<t> cert=<c>",
@@ -87,6 +114,7 @@ fn other_spellings_that_clap_takes(rt: HostRuntime) -> Result<(), Fail> {
         ("sec check a -k +2 b", "check <a> <b> k=2 j=1"),
         ("sec check a b -k 02", "check <a> <b> k=2 j=1"),
         ("sec check a b -j064", "check <a> <b> k=1 j=64"),
+        ("sec check a b -d=+7", "check <a> <b> k=1 d=7 j=1"),
         ("sec check a b --trace=f", "check <a> <b> k=1 j=1 trace=<f>"),
         (
             "sec check a b --trace=f=g",
@@ -164,6 +192,9 @@ fn words_that_are_no_command(rt: HostRuntime) -> Result<(), Fail> {
         "sec check a b -K 2",
         "sec check a b -j 0",
         "sec check a b -j 65",
+        "sec check a b -d 0",
+        "sec check a b -d 65",
+        "sec check a b -d 2 -d 3",
         "sec check a b --classes --classes",
         "sec check a b --classes=1",
         "sec check a b --classes=",
@@ -183,6 +214,7 @@ fn words_that_are_no_command(rt: HostRuntime) -> Result<(), Fail> {
         "sec demo 100001",
         "sec demo 1 2",
         "sec demo 1 --stats",
+        "sec demo 1 -d 2",
         "sec demo -- -1",
     ] {
         assert_eq!(rt; said(rt.alloc(), text)?.as_str(), "no command", "{text}");

@@ -21,6 +21,7 @@ unpaired_high (unpaired.LoadFailed side) = (omega arith, omega arith, omega arit
 unpaired_high (unpaired.Refused side f) = (omega arith, omega arith, omega arith)
 unpaired_high (unpaired.InputsDiffer a b) = (omega arith, omega arith, omega arith)
 unpaired_high (unpaired.OutputsDiffer a b) = (omega arith, omega arith, omega arith)
+unpaired_high (unpaired.FreeDiffer a b) = (omega arith, omega arith, omega arith)
 
 refusal_high : (r : Refusal) → (4 ≤ refusal_status r) × (refusal_status r ≢ 6) × (refusal_status r ≤ 7)
 refusal_high refusals.Memory = (omega arith, omega arith, omega arith)
@@ -37,6 +38,7 @@ unpaired_memory left right (unpaired.LoadFailed side) e = absurd (omega arith)
 unpaired_memory left right (unpaired.Refused side f) e = absurd (omega arith)
 unpaired_memory left right (unpaired.InputsDiffer a b) e = absurd (omega arith)
 unpaired_memory left right (unpaired.OutputsDiffer a b) e = absurd (omega arith)
+unpaired_memory left right (unpaired.FreeDiffer a b) e = absurd (omega arith)
 
 refusal_memory : (left right trace : List ℕ) (r : Refusal) → refusal_status r ≡ 7 → refusal_text left right trace r ≡ memory_text
 refusal_memory left right trace refusals.Memory e = refl
@@ -53,6 +55,7 @@ unpaired_load (unpaired.LoadFailed side) e = tt
 unpaired_load (unpaired.Refused side f) e = omega arith
 unpaired_load (unpaired.InputsDiffer a b) e = omega arith
 unpaired_load (unpaired.OutputsDiffer a b) e = omega arith
+unpaired_load (unpaired.FreeDiffer a b) e = omega arith
 
 refusal_load : (r : Refusal) → refusal_status r ≡ 5 → IsLoadEnding (Err r)
 refusal_load refusals.Memory e = omega arith
@@ -68,6 +71,7 @@ no_side left right (unpaired.LoadFailed side) h = absurd (h refl)
 no_side left right (unpaired.Refused side f) h = refl
 no_side left right (unpaired.InputsDiffer a b) h = refl
 no_side left right (unpaired.OutputsDiffer a b) h = refl
+no_side left right (unpaired.FreeDiffer a b) h = refl
 
 no_name : (left right trace : List ℕ) (r : Refusal) → (refusal_status r ≢ 5) → failed_names left right trace (Err r) ≡ []
 no_name left right trace refusals.Memory h = refl

@@ -1,5 +1,7 @@
 pub mod CutShort
 pub mod Concluding
+pub mod OneAnswer
+pub mod SameLines
 pub mod Tallied
 pub mod LeftOut
 pub mod Verdicts

@@ -1,7 +1,10 @@
 -- What a command answers, once its files are accepted: a status and a text.
-use Rattle.std.specs.Prelude.{◌≡◌, ℕ, ◌+◌, ◌==◌, Bool, not, false, List, [], ◌++◌, length, if◌then◌else◌, Option, Some, None, is_some, IsSomeAnd, Ok, MatchBool}
+use Rattle.std.specs.Prelude.{◌≡◌, ℕ, ◌+◌, ◌==◌, Bool, IsTrue, not, false, List, [], ◌++◌, length, if◌then◌else◌, Option, Some, None, is_some, IsSomeAnd, Ok, MatchBool}
 use Rattle.circ_model.specs.Meaning.{Pair, Path, IsRun, places_of}
 use Rattle.circ_model.specs.Verdict.{Verdict, Equivalent, Different, Undecided, IsVerdict, IsFirstDifference, FirstDifference}
+use Rattle.induction_base.specs.declared.difference.Diff.{Diff}
+use Rattle.induction_base.specs.Least.{IsShown}
+use Rattle.induction_base.specs.LeastRun.{IsLeastRun}
 use Rattle.corr_certificate.specs.Certificate.{IsSupported}
 use Rattle.corr_certificate.specs.Writing.{IsCertificate}
 use Rattle.class_partition.specs.Classes.{Classes, ArePartition, AreOfGreatest}
@@ -19,7 +22,6 @@ use Rattle.sec_cli.specs.declared.ending.Answer.{Answer}
 use Rattle.command_line.specs.Asked.{CheckAsked}
 use Rattle.command_line.specs.declared.command.Demo.{Demo}
 use Rattle.demo_pair.specs.Demo.{IsDemo}
-use Rattle.circ_model.specs.Netlist.{Netlist}
 
 abbrev pub status_of_verdict : Verdict → ℕ
 status_of_verdict (Equivalent classes) = 0
@@ -63,15 +65,24 @@ pub record ShowsDifference (pair : Pair) (frame output : ℕ) (run : Path) : Typ
   pub rows : length run.inputs ≡ frame + 1
   pub first : IsFirstDifference pair run frame output
 
+-- where it is asked for the run is the least that differs there: no other has bits that come before
+abbrev pub IsLeastWhereAsked : Pair → CheckAsked → ℕ → ℕ → Path → Type 0
+IsLeastWhereAsked pair c frame output run = IsTrue c.least → IsLeastRun pair frame output run
+
+-- the least difference below the depth, with a run that shows it, which is the least where that is asked for
+pub record IsShownAs (pair : Pair) (c : CheckAsked) (d : Diff) : Type 0 where
+  pub shown : IsShown pair c.depth d
+  pub least : IsLeastWhereAsked pair c d.frame d.output d.run
+
 -- what is printed of a verdict, its file, which is the trace in it, or a certificate, or nothing, and its journal
 abbrev pub IsVerdictText : Pair → CheckAsked → Verdict → List ℕ → List ℕ → Option Written → Type 0
 IsVerdictText pair c (Equivalent n) text file journal = IsCertOf pair c file × IsSomeAnd journal (λ j. IsRefinedText pair c j.entries (equivalent_line c.k (places_of pair) n) text)
 IsVerdictText pair c (Undecided n u) text file journal = IsSomeAnd journal (λ j. IsRefinedText pair c j.entries (undecided_line c.k (places_of pair) n u) text)
-IsVerdictText pair c (Different t j) text file journal = (run : Path) × ShowsDifference pair t j run × (file ≡ trace_text j run) × (text ≡ different_line c.k t j ++ file)
+IsVerdictText pair c (Different t j) text file journal = (run : Path) × ShowsDifference pair t j run × IsLeastWhereAsked pair c t j run × (file ≡ trace_text j run) × (text ≡ different_line c.k t j ++ file)
 
 -- the verdict's status, text, file and journal
 abbrev pub IsVerdictAnswer : Pair → CheckAsked → ℕ → List ℕ → List ℕ → Option Written → Type 0
-IsVerdictAnswer pair c status text file journal = (v : Verdict) × IsVerdict pair c.k c.k v × (status ≡ status_of_verdict v) × IsVerdictText pair c v text file journal
+IsVerdictAnswer pair c status text file journal = (v : Verdict) × IsVerdict pair c.k c.depth v × (status ≡ status_of_verdict v) × IsVerdictText pair c v text file journal
 
 abbrev pub IsCheckAnswer : Pair → CheckAsked → Answer → Type 0
 IsCheckAnswer pair c answer = IsVerdictAnswer pair c answer.status answer.text.items answer.file.items answer.journal
@@ -91,12 +102,12 @@ IsReplayAnswer pair bytes answer = (trace : Trace) × (trace_of pair (lines_of b
 abbrev pub IsVerifyAnswer : Pair → List ℕ → Answer → Type 0
 IsVerifyAnswer pair bytes answer = IsSupported pair bytes × (answer.status ≡ 0) × (answer.text.items ≡ verified_line)
 
--- a demo is checked as two files are, without class lines, numbers of entries and stored files
+-- a demo is checked as two files are, with a search for a difference in the first k frames, without class lines, numbers of entries and stored files; its free latches, if any, aren't tied
 abbrev pub check_of_demo : Demo → CheckAsked
-check_of_demo d = record { left = []; right = []; k = d.k; workers = d.workers; classes = false; stats = false; trace = None; cert = None }
+check_of_demo d = record { left = []; right = []; k = d.k; depth = d.k; workers = d.workers; classes = false; stats = false; trace = None; cert = None; tied = false; least = false }
 
 -- the line of the demo, and then the verdict of its pair
 abbrev pub IsDemoAnswer : Demo → Answer → Type 0
 IsDemoAnswer d answer =
-    (left : Netlist) × (right : Netlist) × IsDemo d.n left right
-    × ((text : List ℕ) × IsVerdictAnswer (record { left = left; right = right }) (check_of_demo d) answer.status text answer.file.items answer.journal × (answer.text.items ≡ demo_line d.n ++ text))
+    (pair : Pair) × (IsDemo d.n pair.left pair.right × (pair.tied ≡ false))
+    × ((text : List ℕ) × IsVerdictAnswer pair (check_of_demo d) answer.status text answer.file.items answer.journal × (answer.text.items ≡ demo_line d.n ++ text))

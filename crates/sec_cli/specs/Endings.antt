@@ -1,7 +1,7 @@
 -- How a run ends, before anything of it is written.
-use Rattle.std.specs.Prelude.{◌≡◌, ◌≢◌, ℕ, ◌<◌, ◌≤◌, ◌⊎◌, List, [], ◌∷◌, length, Bool, false, Option, None, IsSomeAnd, Result, Ok, Err}
+use Rattle.std.specs.Prelude.{◌≡◌, ◌≢◌, ℕ, ◌<◌, ◌≤◌, ◌⊎◌, List, [], ◌∷◌, length, Bool, IsTrue, false, Option, None, IsSomeAnd, Result, Ok, Err}
 use Rattle.circ_model.specs.Netlist.{Netlist}
-use Rattle.circ_model.specs.Meaning.{Pair, IsSoundPair}
+use Rattle.circ_model.specs.Meaning.{Pair, IsSoundPair, free_latches}
 use Rattle.aiger_codec.specs.Lines.{fault}
 use Rattle.aiger_codec.specs.declared.fault.NetFault.{NetFault}
 use Rattle.aiger_codec.specs.declared.fault.NetKind.TheVariants as kinds
@@ -53,33 +53,38 @@ IsRead file (Err (unread.Refused f)) = IsRefused file f
 IsRead file (Err unread.Failed) = Unit {0}
 IsRead file (Err unread.Memory) = Unit {0}
 
--- both files are accepted, as this pair
-pub record AreAccepted (left right : Option (List ℕ)) (pair : Pair) : Type 0 where
+-- both files are accepted, as this pair, whose free latches are tied or not
+pub record AreAccepted (tied : Bool) (left right : Option (List ℕ)) (pair : Pair) : Type 0 where
   pub is_left : IsAccepted left pair.left
   pub is_right : IsAccepted right pair.right
+  pub ties : pair.tied ≡ tied
 
--- and it has as many inputs on both sides, and as many outputs
-pub record ArePair (left right : Option (List ℕ)) (pair : Pair) : Type 0 where
-  pub accepted : AreAccepted left right pair
+-- and it has as many inputs on both sides, and as many outputs, and where they are tied as many free latches
+pub record ArePair (tied : Bool) (left right : Option (List ℕ)) (pair : Pair) : Type 0 where
+  pub accepted : AreAccepted tied left right pair
   pub sound : IsSoundPair pair
 
 -- the counts of two netlists differ
 abbrev pub AreApart : Pair → Unpaired → Type 0
 AreApart pair (unpaired.InputsDiffer a b) = (a ≡ length pair.left.inputs) × (b ≡ length pair.right.inputs) × (a ≢ b)
 AreApart pair (unpaired.OutputsDiffer a b) = (length pair.left.inputs ≡ length pair.right.inputs) × (a ≡ length pair.left.outputs) × (b ≡ length pair.right.outputs) × (a ≢ b)
+AreApart pair (unpaired.FreeDiffer a b) =
+    IsTrue pair.tied × (length pair.left.inputs ≡ length pair.right.inputs) × (length pair.left.outputs ≡ length pair.right.outputs)
+    × (a ≡ length (free_latches pair.left)) × (b ≡ length (free_latches pair.right)) × (a ≢ b)
 AreApart pair unpaired.Memory = Unit {0}
 AreApart pair (unpaired.LoadFailed side) = ⊥
 AreApart pair (unpaired.Refused side f) = ⊥
 
--- why there is no pair of these two files
-abbrev pub IsNoPair : Option (List ℕ) → Option (List ℕ) → Unpaired → Type 0
-IsNoPair left right unpaired.Memory = Unit {0}
-IsNoPair left right (unpaired.LoadFailed Left) = Unit {0}
-IsNoPair left right (unpaired.LoadFailed Right) = (net : Netlist) × IsAccepted left net
-IsNoPair left right (unpaired.Refused Left f) = IsRefused left f
-IsNoPair left right (unpaired.Refused Right f) = ((net : Netlist) × IsAccepted left net) × IsRefused right f
-IsNoPair left right (unpaired.InputsDiffer a b) = (pair : Pair) × AreAccepted left right pair × AreApart pair (unpaired.InputsDiffer a b)
-IsNoPair left right (unpaired.OutputsDiffer a b) = (pair : Pair) × AreAccepted left right pair × AreApart pair (unpaired.OutputsDiffer a b)
+-- why there is no pair of these two files, tied or not
+abbrev pub IsNoPair : Bool → Option (List ℕ) → Option (List ℕ) → Unpaired → Type 0
+IsNoPair tied left right unpaired.Memory = Unit {0}
+IsNoPair tied left right (unpaired.LoadFailed Left) = Unit {0}
+IsNoPair tied left right (unpaired.LoadFailed Right) = (net : Netlist) × IsAccepted left net
+IsNoPair tied left right (unpaired.Refused Left f) = IsRefused left f
+IsNoPair tied left right (unpaired.Refused Right f) = ((net : Netlist) × IsAccepted left net) × IsRefused right f
+IsNoPair tied left right (unpaired.InputsDiffer a b) = (pair : Pair) × AreAccepted tied left right pair × AreApart pair (unpaired.InputsDiffer a b)
+IsNoPair tied left right (unpaired.OutputsDiffer a b) = (pair : Pair) × AreAccepted tied left right pair × AreApart pair (unpaired.OutputsDiffer a b)
+IsNoPair tied left right (unpaired.FreeDiffer a b) = (pair : Pair) × AreAccepted tied left right pair × AreApart pair (unpaired.FreeDiffer a b)
 
 -- the names of a command's files
 abbrev pub left_name : Asked → List ℕ
@@ -103,32 +108,32 @@ third_name (ForDemo d) = []
 -- how the check of two files ends
 abbrev pub IsCheckEnding : Option (List ℕ) → Option (List ℕ) → CheckAsked → Ending → Type 0
 IsCheckEnding left right c (Err refusals.Memory) = Unit {0}
-IsCheckEnding left right c (Err (refusals.Unpaired u)) = IsNoPair left right u
-IsCheckEnding left right c (Ok a) = (pair : Pair) × ArePair left right pair × IsCheckAnswer pair c a
+IsCheckEnding left right c (Err (refusals.Unpaired u)) = IsNoPair c.tied left right u
+IsCheckEnding left right c (Ok a) = (pair : Pair) × ArePair c.tied left right pair × IsCheckAnswer pair c a
 IsCheckEnding left right c (Err refusals.ThirdFailed) = ⊥
 IsCheckEnding left right c (Err refusals.ThirdTooLong) = ⊥
 IsCheckEnding left right c (Err (refusals.TraceRefused f)) = ⊥
 IsCheckEnding left right c (Err (refusals.CertRefused f)) = ⊥
 
 -- and how the replay of a third file on them ends
-abbrev pub IsReplayEnding : Option (List ℕ) → Option (List ℕ) → Option (List ℕ) → Ending → Type 0
-IsReplayEnding left right trace (Err refusals.Memory) = Unit {0}
-IsReplayEnding left right trace (Err (refusals.Unpaired u)) = IsNoPair left right u
-IsReplayEnding left right trace (Err refusals.ThirdFailed) = (pair : Pair) × ArePair left right pair
-IsReplayEnding left right trace (Err refusals.ThirdTooLong) = (pair : Pair) × ArePair left right pair × IsSomeAnd trace (λ bytes. longest_third < length bytes)
-IsReplayEnding left right trace (Err (refusals.TraceRefused f)) = (pair : Pair) × ArePair left right pair × IsSomeAnd trace (λ bytes. (length bytes ≤ longest_third) × (trace_of pair (lines_of bytes) ≡ Err f))
-IsReplayEnding left right trace (Err (refusals.CertRefused f)) = ⊥
-IsReplayEnding left right trace (Ok a) = (pair : Pair) × ArePair left right pair × IsSomeAnd trace (λ bytes. (length bytes ≤ longest_third) × IsReplayAnswer pair bytes a)
+abbrev pub IsReplayEnding : Bool → Option (List ℕ) → Option (List ℕ) → Option (List ℕ) → Ending → Type 0
+IsReplayEnding tied left right trace (Err refusals.Memory) = Unit {0}
+IsReplayEnding tied left right trace (Err (refusals.Unpaired u)) = IsNoPair tied left right u
+IsReplayEnding tied left right trace (Err refusals.ThirdFailed) = (pair : Pair) × ArePair tied left right pair
+IsReplayEnding tied left right trace (Err refusals.ThirdTooLong) = (pair : Pair) × ArePair tied left right pair × IsSomeAnd trace (λ bytes. longest_third < length bytes)
+IsReplayEnding tied left right trace (Err (refusals.TraceRefused f)) = (pair : Pair) × ArePair tied left right pair × IsSomeAnd trace (λ bytes. (length bytes ≤ longest_third) × (trace_of pair (lines_of bytes) ≡ Err f))
+IsReplayEnding tied left right trace (Err (refusals.CertRefused f)) = ⊥
+IsReplayEnding tied left right trace (Ok a) = (pair : Pair) × ArePair tied left right pair × IsSomeAnd trace (λ bytes. (length bytes ≤ longest_third) × IsReplayAnswer pair bytes a)
 
 -- and how the reading of a certificate for them ends
-abbrev pub IsVerifyEnding : Option (List ℕ) → Option (List ℕ) → Option (List ℕ) → Ending → Type 0
-IsVerifyEnding left right cert (Err refusals.Memory) = Unit {0}
-IsVerifyEnding left right cert (Err (refusals.Unpaired u)) = IsNoPair left right u
-IsVerifyEnding left right cert (Err refusals.ThirdFailed) = (pair : Pair) × ArePair left right pair
-IsVerifyEnding left right cert (Err refusals.ThirdTooLong) = (pair : Pair) × ArePair left right pair × IsSomeAnd cert (λ bytes. longest_third < length bytes)
-IsVerifyEnding left right cert (Err (refusals.TraceRefused f)) = ⊥
-IsVerifyEnding left right cert (Err (refusals.CertRefused f)) = (pair : Pair) × ArePair left right pair × IsSomeAnd cert (λ bytes. (length bytes ≤ longest_third) × IsChecked pair bytes (No f))
-IsVerifyEnding left right cert (Ok a) = (pair : Pair) × ArePair left right pair × IsSomeAnd cert (λ bytes. (length bytes ≤ longest_third) × IsVerifyAnswer pair bytes a)
+abbrev pub IsVerifyEnding : Bool → Option (List ℕ) → Option (List ℕ) → Option (List ℕ) → Ending → Type 0
+IsVerifyEnding tied left right cert (Err refusals.Memory) = Unit {0}
+IsVerifyEnding tied left right cert (Err (refusals.Unpaired u)) = IsNoPair tied left right u
+IsVerifyEnding tied left right cert (Err refusals.ThirdFailed) = (pair : Pair) × ArePair tied left right pair
+IsVerifyEnding tied left right cert (Err refusals.ThirdTooLong) = (pair : Pair) × ArePair tied left right pair × IsSomeAnd cert (λ bytes. longest_third < length bytes)
+IsVerifyEnding tied left right cert (Err (refusals.TraceRefused f)) = ⊥
+IsVerifyEnding tied left right cert (Err (refusals.CertRefused f)) = (pair : Pair) × ArePair tied left right pair × IsSomeAnd cert (λ bytes. (length bytes ≤ longest_third) × IsChecked pair bytes (No f))
+IsVerifyEnding tied left right cert (Ok a) = (pair : Pair) × ArePair tied left right pair × IsSomeAnd cert (λ bytes. (length bytes ≤ longest_third) × IsVerifyAnswer pair bytes a)
 
 -- a demo has no files: it answers, but for want of memory
 abbrev pub IsDemoEnding : Demo → Ending → Type 0
@@ -163,6 +168,7 @@ IsLoadFailed unpaired.Memory = ⊥
 IsLoadFailed (unpaired.Refused side f) = ⊥
 IsLoadFailed (unpaired.InputsDiffer a b) = ⊥
 IsLoadFailed (unpaired.OutputsDiffer a b) = ⊥
+IsLoadFailed (unpaired.FreeDiffer a b) = ⊥
 
 -- the names whose loads failed
 abbrev pub failed_load : Result Netlist Unread → List ℕ → List (List ℕ)
@@ -178,6 +184,7 @@ failed_side left right unpaired.Memory = []
 failed_side left right (unpaired.Refused side f) = []
 failed_side left right (unpaired.InputsDiffer a b) = []
 failed_side left right (unpaired.OutputsDiffer a b) = []
+failed_side left right (unpaired.FreeDiffer a b) = []
 
 abbrev pub failed_loads : List ℕ → List ℕ → Result Pair Unpaired → List (List ℕ)
 failed_loads left right (Ok pair) = []

@@ -5,3 +5,4 @@ pub mod Answers
 pub mod Endings
 pub mod Reports
 pub mod Runs
+pub mod OneAnswer

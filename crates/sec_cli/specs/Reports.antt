@@ -25,6 +25,7 @@ unpaired_status (unpaired.LoadFailed side) = 5
 unpaired_status (unpaired.Refused side f) = 4
 unpaired_status (unpaired.InputsDiffer a b) = 4
 unpaired_status (unpaired.OutputsDiffer a b) = 4
+unpaired_status (unpaired.FreeDiffer a b) = 4
 
 abbrev pub unpaired_text : List ℕ → List ℕ → Unpaired → List ℕ
 unpaired_text left right unpaired.Memory = memory_text
@@ -32,6 +33,7 @@ unpaired_text left right (unpaired.LoadFailed side) = read_failed_text (name_of_
 unpaired_text left right (unpaired.Refused side f) = fault_text (name_of_side left right side) f
 unpaired_text left right (unpaired.InputsDiffer a b) = differ_text (codes "inputs") a b
 unpaired_text left right (unpaired.OutputsDiffer a b) = differ_text (codes "outputs") a b
+unpaired_text left right (unpaired.FreeDiffer a b) = differ_text (codes "free latches") a b
 
 -- the status of a refusal, and what is told of it
 abbrev pub refusal_status : Refusal → ℕ

@@ -11,8 +11,8 @@ use Rattle.sec_cli.specs.Reports.{World, IsTold, IsStored, IsUnprinted, IsUnstor
 -- how the command ended over these files, where the shelf tells them; a demo reads none
 abbrev pub Ended : Bool → (List ℕ → Option (List ℕ)) → Asked → Ending → Type 0
 Ended tells file (ForCheck c) e = IsTrue tells → IsCheckEnding (file c.left) (file c.right) c e
-Ended tells file (ForReplay c) e = IsTrue tells → IsReplayEnding (file c.left) (file c.right) (file c.trace) e
-Ended tells file (ForVerify c) e = IsTrue tells → IsVerifyEnding (file c.left) (file c.right) (file c.cert) e
+Ended tells file (ForReplay c) e = IsTrue tells → IsReplayEnding c.tied (file c.left) (file c.right) (file c.trace) e
+Ended tells file (ForVerify c) e = IsTrue tells → IsVerifyEnding c.tied (file c.left) (file c.right) (file c.cert) e
 Ended tells file (ForDemo d) e = IsDemoEnding d e
 
 -- the journal is that of the command's answer, and there is none where the command answered nothing

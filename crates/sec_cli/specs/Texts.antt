@@ -69,6 +69,7 @@ name_of_cert_kind cert_kinds.Class = codes "class"
 name_of_cert_kind cert_kinds.Outputs = codes "outputs"
 name_of_cert_kind cert_kinds.Order = codes "order"
 name_of_cert_kind cert_kinds.Derivation = codes "derivation"
+name_of_cert_kind cert_kinds.Tie = codes "tie"
 
 abbrev pub cert_fault_text : List ℕ → CertFault → List ℕ
 cert_fault_text name fault = about name ++ ((name_of_cert_kind fault.kind ++ codes " at line ") ++ (decimal fault.line ++ codes "\n"))
@@ -89,4 +90,4 @@ abbrev pub memory_text : List ℕ
 memory_text = codes "sec: out of memory\n"
 
 abbrev pub usage_text : List ℕ
-usage_text = codes "usage: sec check LEFT RIGHT [-k K] [-j J] [--classes] [--stats] [--trace FILE] [--cert FILE]\n       sec replay LEFT RIGHT TRACE\n       sec verify LEFT RIGHT CERT\n       sec demo N [-k K] [-j J]\n"
+usage_text = codes "usage: sec check LEFT RIGHT [-k K] [-d D] [-j J] [--classes] [--stats] [--trace FILE] [--cert FILE] [--tie] [--least]\n       sec replay LEFT RIGHT TRACE [--tie]\n       sec verify LEFT RIGHT CERT [--tie]\n       sec demo N [-k K] [-j J]\n"

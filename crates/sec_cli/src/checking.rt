@@ -4,10 +4,10 @@ ghost use Rattle.circ_model.specs.Meaning.{IsSoundPair, places_of, outputs_of};
 ghost use Rattle.circ_model.specs.Verdict.{AgreeBelow};
 ghost use Rattle.class_partition.specs.Classes.{ArePartition, AreOfGreatest};
 ghost use Rattle.class_partition.specs.Laws.{PairOutput};
-ghost use Rattle.induction_base.specs.Least.{IsShown};
-ghost use Rattle.command_line.specs.Asked.{check_asked};
+ghost use Rattle.induction_base.specs.Least.{IsLeastOrNone, IsShown};
+ghost use Rattle.command_line.specs.Asked.{check_asked, IsCheckWithin};
 ghost use Rattle.sec_cli.specs.Outputs.{AreLeftOut};
-ghost use Rattle.sec_cli.specs.Answers.{AreClassLines, IsCertOf, IsCheckAnswer, IsJournalOf, IsRefinedText, is_refined, stats_lines};
+ghost use Rattle.sec_cli.specs.Answers.{AreClassLines, IsCertOf, IsCheckAnswer, IsJournalOf, IsRefinedText, IsShownAs, is_refined, stats_lines};
 
 use crate::counting::stats_of;
 use crate::ending::Answer;
@@ -16,7 +16,7 @@ use class_partition::Classes;
 use class_text::push_class_lines;
 use command_line::Check;
 use corr_certificate::write_cert;
-use induction_base::{Diff, least_difference};
+use induction_base::{Diff, least_difference, least_run};
 use product_machine::Product;
 use refine_board::Journal;
 use sec_base::Gate;
@@ -94,7 +94,25 @@ fn push_lines(
     push_stats(alloc, c, journal, text)
 }
 
-// The answer by the classes of the greatest correspondence, where no run differs below the depth.
+// The least difference below the depth, where the outputs agree in the first frame.
+fn deeper_difference(
+    alloc: Global,
+    product: &Product,
+    depth: u32,
+) -> Result<Option<Diff>, AllocError>
+    requires agree { AgreeBelow product.now 1 }
+    requires some { 0 < depth }
+    requires few { depth ≤ 64 }
+    ensures { IfOk result (IsLeastOrNone product.now depth) }
+{
+    if depth == 1 {
+        return Ok(None);
+    }
+    least_difference(alloc, product, depth)
+}
+
+// The answer by the classes of the greatest correspondence, where no run differs in the first frame. Where the classes pair all
+// outputs no run differs at all, and no deeper search is made.
 fn answer_by(
     alloc: Global,
     product: &Product,
@@ -106,9 +124,8 @@ fn answer_by(
     requires partition { ArePartition (places_of product.now) classes.now }
     requires greatest { AreOfGreatest product.now c.now.k classes.now }
     requires journal { IsJournalOf product.now (check_asked c.now) journal.entries }
-    requires agree { AgreeBelow product.now c.now.k }
-    requires some { 0 < c.now.k }
-    requires few { c.now.k ≤ 16 }
+    requires agree { AgreeBelow product.now 1 }
+    requires within { IsCheckWithin (check_asked c.now) }
     ensures answer { IfOk result (IsCheckAnswer product.now (check_asked c.now)) }
     ensures status { IfOk result (λ a. a.status ≤ 2) }
     ensures journal { IfOk result (λ a. is_some a.journal ≡ is_refined a.status) }
@@ -116,9 +133,11 @@ fn answer_by(
     let _places = classes.len();
     let outputs = left_out(alloc, product, classes)?;
     if outputs.is_empty() {
-        equivalent(alloc, product, c, classes, journal)
-    } else {
-        undecided(alloc, product, c, classes, journal, outputs.as_slice())
+        return equivalent(alloc, product, c, classes, journal);
+    }
+    match deeper_difference(alloc, product, c.depth)? {
+        Some(diff) => different(alloc, product, c, diff),
+        None => undecided(alloc, product, c, classes, journal, outputs.as_slice()),
     }
 }
 
@@ -187,7 +206,7 @@ fn undecided(
     requires partition { ArePartition (places_of product.now) classes.now }
     requires greatest { AreOfGreatest product.now c.now.k classes.now }
     requires journal { IsJournalOf product.now (check_asked c.now) journal.entries }
-    requires agree { AgreeBelow product.now c.now.k }
+    requires agree { AgreeBelow product.now c.now.depth }
     requires some { outputs.now ≢ [] }
     requires left_out { AreLeftOut product.now classes.now (outputs_of product.now) outputs.now }
     ensures answer { IfOk result (IsCheckAnswer product.now (check_asked c.now)) }
@@ -207,13 +226,33 @@ fn undecided(
     })
 }
 
+// The difference, with its least run where that is asked for.
+fn run_asked_for(
+    alloc: Global,
+    product: &Product,
+    c: &Check,
+    diff: Diff,
+) -> Result<Diff, AllocError>
+    requires shown { IsShown product.now c.now.depth diff }
+    requires within { IsCheckWithin (check_asked c.now) }
+    ensures { IfOk result (IsShownAs product.now (check_asked c.now)) }
+{
+    let _cells = product.cells();
+    if c.least {
+        return least_run(alloc, product, &diff);
+    }
+    Ok(diff)
+}
+
 // A run differs.
-fn different(alloc: Global, product: &Product, c: &Check, diff: &Diff) -> Result<Answer, AllocError>
-    requires shown { IsShown product.now c.now.k diff.now }
+fn different(alloc: Global, product: &Product, c: &Check, diff: Diff) -> Result<Answer, AllocError>
+    requires shown { IsShown product.now c.now.depth diff }
+    requires within { IsCheckWithin (check_asked c.now) }
     ensures answer { IfOk result (IsCheckAnswer product.now (check_asked c.now)) }
     ensures status { IfOk result (λ a. a.status ≤ 2) }
     ensures journal { IfOk result (λ a. is_some a.journal ≡ is_refined a.status) }
 {
+    let diff = run_asked_for(alloc, product, c, diff)?;
     let line = different_line(alloc, c.k, diff.frame, diff.output)?;
     let mut text = Vec::from_slice(alloc, line.as_bytes())?;
     let trace = write_trace(alloc, product, diff.output, &diff.run)?;
@@ -234,16 +273,14 @@ pub(crate) fn check_pair<R: Threads + Wait + Sync, G: Gate>(
     c: &Check,
     gate: &G,
 ) -> Result<Answer, AllocError>
-    requires some { 0 < c.now.k }
-    requires few { c.now.k ≤ 16 }
-    requires workers { (0 < c.now.workers) × (c.now.workers ≤ 64) }
+    requires { IsCheckWithin (check_asked c.now) }
     ensures answer { IfOk result (IsCheckAnswer product.now (check_asked c.now)) }
     ensures status { IfOk result (λ a. a.status ≤ 2) }
     ensures journal { IfOk result (λ a. is_some a.journal ≡ is_refined a.status) }
 {
     let _sound = product.cells();
-    if let Some(diff) = least_difference(alloc, product, c.k)? {
-        return different(alloc, product, c, &diff);
+    if let Some(diff) = least_difference(alloc, product, 1)? {
+        return different(alloc, product, c, diff);
     }
     let Refined {
         version,

@@ -1,13 +1,14 @@
 // One run: its words, its files, and what is written of it.
 ghost use Rattle.std.specs.Prelude.{◌≡◌, ◌≢◌, ◌≤◌, ◌<◌, ◌⊎◌, ℕ, List, [], ◌∷◌, IsTrue, IsSomeAnd, MatchBool, None, is_some, IfOk};
 ghost use Rattle.sec_base.specs.Faults.{Rose, appended};
-ghost use Rattle.command_line.specs.Asked.{asked_of, check_asked, IsDemoWithin, IsWithin};
+ghost use Rattle.command_line.specs.Asked.{asked_of, check_asked, IsCheckWithin, IsDemoWithin, IsWithin};
 ghost use Rattle.command_line.specs.Meant.{meant, AreNoCommand};
 ghost use Rattle.command_line.specs.Plain.{texts};
 ghost use Rattle.sec_cli.specs.Answers.{is_refined};
 ghost use Rattle.sec_cli.specs.Texts.{usage_text, memory_text};
 ghost use Rattle.sec_cli.specs.Endings.{Ending, IsCheckEnding, IsReplayEnding, IsVerifyEnding, IsDemoEnding, IsLoadEnding, refines, journal_of, failed_names, left_name, right_name, third_name};
 ghost use Rattle.sec_cli.specs.Reports.{IsTold, IsReport, refusal_status, told_of};
+ghost use Rattle.sec_cli.specs.OneAnswer.{IsOneAnswer};
 ghost use Rattle.sec_cli.specs.Runs.{Ended, IsAnswered, IsJournalOfWords, IsRefused, IsUnread, IsUnwritten};
 
 use crate::checking::check_pair;
@@ -36,7 +37,7 @@ pub struct Report {
 }
 
 const USAGE: &str =
-    "usage: sec check LEFT RIGHT [-k K] [-j J] [--classes] [--stats] [--trace FILE] [--cert FILE]\n       sec replay LEFT RIGHT TRACE\n       sec verify LEFT RIGHT CERT\n       sec demo N [-k K] [-j J]\n";
+    "usage: sec check LEFT RIGHT [-k K] [-d D] [-j J] [--classes] [--stats] [--trace FILE] [--cert FILE] [--tie] [--least]\n       sec replay LEFT RIGHT TRACE [--tie]\n       sec verify LEFT RIGHT CERT [--tie]\n       sec demo N [-k K] [-j J]\n";
 
 // The answer of a check of two files.
 fn check_files<R: Threads + Wait + Sync, S: Shelf, G: Gate>(
@@ -48,9 +49,7 @@ fn check_files<R: Threads + Wait + Sync, S: Shelf, G: Gate>(
     c: &Check,
     gate: &G,
 ) -> Result<Answer, Refusal>
-    requires some { 0 < c.now.k }
-    requires few { c.now.k ≤ 16 }
-    requires workers { (0 < c.now.workers) × (c.now.workers ≤ 64) }
+    requires { IsCheckWithin (check_asked c.now) }
     ensures ending { IsTrue S.tells → IsCheckEnding (S.file shelf.old left.now) (S.file shelf.old right.now) (check_asked c.now) result }
     ensures status { IfOk result (λ a. a.status ≤ 2) }
     ensures journal { IfOk result (λ a. is_some a.journal ≡ is_refined a.status) }
@@ -60,7 +59,7 @@ fn check_files<R: Threads + Wait + Sync, S: Shelf, G: Gate>(
     ensures load_count { S.load_faults shelf.old ≤ S.load_faults shelf.new }
     ensures store_count { S.store_faults shelf.new ≡ S.store_faults shelf.old }
 {
-    match load_pair(alloc, shelf, left, right) {
+    match load_pair(alloc, shelf, left, right, c.tied) {
         Err(unpaired) => Err(Refusal::Unpaired(unpaired)),
         Ok(product) => match check_pair(rt, alloc, &product, c, gate) {
             Ok(answer) => Ok(answer),
@@ -76,8 +75,9 @@ fn replay_files<S: Shelf>(
     left: &str,
     right: &str,
     trace: &str,
+    tied: bool,
 ) -> Result<Answer, Refusal>
-    ensures ending { IsTrue S.tells → IsReplayEnding (S.file shelf.old left.now) (S.file shelf.old right.now) (S.file shelf.old trace.now) result }
+    ensures ending { IsTrue S.tells → IsReplayEnding tied (S.file shelf.old left.now) (S.file shelf.old right.now) (S.file shelf.old trace.now) result }
     ensures status { IfOk result (λ a. a.status ≤ 2) }
     ensures journal { IfOk result (λ a. a.journal ≡ None) }
     ensures failed { IsLoadEnding result → Rose (S.load_faults shelf.old) (S.load_faults shelf.new) }
@@ -86,7 +86,7 @@ fn replay_files<S: Shelf>(
     ensures load_count { S.load_faults shelf.old ≤ S.load_faults shelf.new }
     ensures store_count { S.store_faults shelf.new ≡ S.store_faults shelf.old }
 {
-    match load_pair(alloc, shelf, left, right) {
+    match load_pair(alloc, shelf, left, right, tied) {
         Err(unpaired) => Err(Refusal::Unpaired(unpaired)),
         Ok(product) => replay(alloc, shelf, &product, trace),
     }
@@ -99,8 +99,9 @@ fn verify_files<S: Shelf>(
     left: &str,
     right: &str,
     cert: &str,
+    tied: bool,
 ) -> Result<Answer, Refusal>
-    ensures ending { IsTrue S.tells → IsVerifyEnding (S.file shelf.old left.now) (S.file shelf.old right.now) (S.file shelf.old cert.now) result }
+    ensures ending { IsTrue S.tells → IsVerifyEnding tied (S.file shelf.old left.now) (S.file shelf.old right.now) (S.file shelf.old cert.now) result }
     ensures status { IfOk result (λ a. a.status ≤ 2) }
     ensures journal { IfOk result (λ a. a.journal ≡ None) }
     ensures failed { IsLoadEnding result → Rose (S.load_faults shelf.old) (S.load_faults shelf.new) }
@@ -109,7 +110,7 @@ fn verify_files<S: Shelf>(
     ensures load_count { S.load_faults shelf.old ≤ S.load_faults shelf.new }
     ensures store_count { S.store_faults shelf.new ≡ S.store_faults shelf.old }
 {
-    match load_pair(alloc, shelf, left, right) {
+    match load_pair(alloc, shelf, left, right, tied) {
         Err(unpaired) => Err(Refusal::Unpaired(unpaired)),
         Ok(product) => verify_file(alloc, shelf, &product, cert),
     }
@@ -155,8 +156,8 @@ fn decide<R: Threads + Wait + Sync, S: Shelf, G: Gate>(
 {
     match command {
         Command::Check(c) => { check_files(rt, alloc, shelf, c.left, c.right, &c, gate) }
-        Command::Replay(c) => replay_files(alloc, shelf, c.left, c.right, c.trace),
-        Command::Verify(c) => verify_files(alloc, shelf, c.left, c.right, c.cert),
+        Command::Replay(c) => replay_files(alloc, shelf, c.left, c.right, c.trace, c.tied),
+        Command::Verify(c) => verify_files(alloc, shelf, c.left, c.right, c.cert, c.tied),
         Command::Demo(d) => demo_ending(rt, alloc, &d, gate),
     }
 }
@@ -228,13 +229,15 @@ fn perform<R: Threads + Wait + Sync, S: Shelf, O: Sink, E: Sink, G: Gate>(
     }
 }
 
-/// One run of the program over these words, of which the first is its own name: `check LEFT RIGHT [-k K] [-j J] [--classes]
-/// [--stats] [--trace FILE] [--cert FILE]`, `replay LEFT RIGHT TRACE`, `verify LEFT RIGHT CERT` or `demo N [-k K] [-j J]`.
+/// One run of the program over these words, of which the first is its own name: `check LEFT RIGHT [-k K] [-d D] [-j J]
+/// [--classes] [--stats] [--trace FILE] [--cert FILE] [--tie] [--least]`, `replay LEFT RIGHT TRACE [--tie]`,
+/// `verify LEFT RIGHT CERT [--tie]` or `demo N [-k K] [-j J]`.
 /// `check` decides by signal correspondence with k-induction (van Eijk, IEEE TCAD 19(7), 2000; Sheeran, Singh, Stålmarck,
-/// FMCAD 2000) after a search for a difference in the first k frames; `replay` tells the first difference of a stored trace;
+/// FMCAD 2000) after a search for a difference in the first k frames, or the first D where these are more; `replay` tells the first difference of a stored trace;
 /// `verify` reads a stored certificate, without solver or threads; `demo` checks a pair of any size that it makes itself.
 /// `check` and `demo` refine the classes by J workers, in threads that `rt` starts; they may wait for one another, and the
-/// gate may hold them. The verdict and the classes are the same however they go on.
+/// gate may hold them. The verdict and the classes are the same however they go on; with `--least` so is the trace of a difference.
+/// With `--tie` the free latches of both netlists start equal, in their order.
 pub fn run<R: Threads + Wait + Sync, S: Shelf, O: Sink, E: Sink, G: Gate>(
     rt: &R,
     alloc: Global,
@@ -253,6 +256,12 @@ pub fn run<R: Threads + Wait + Sync, S: Shelf, O: Sink, E: Sink, G: Gate>(
     // The headline: what is printed is what the command answers for the files, and what it stores is what it prints. The
     // numbers of `--stats` are those of the returned journal, which is that of the refinement.
     ensures answered { result.status ≤ 2 → IsSomeAnd (meant (texts words.now)) (λ c. IsAnswered S.tells c result.status result.journal
+        (record { files = S.file shelf.old; store_faults = S.store_faults shelf.old; out = O.taken out.old; out_faults = O.faults out.old; err = E.taken err.old; err_faults = E.faults err.old })
+        (record { files = S.file shelf.new; store_faults = S.store_faults shelf.new; out = O.taken out.new; out_faults = O.faults out.new; err = E.taken err.new; err_faults = E.faults err.new })) }
+
+    // With `--least` and without `--stats` it is the only answer: what is printed, and the trace that is stored, are one function of
+    // the files and the words.
+    ensures one_answer { result.status ≤ 2 → IsSomeAnd (meant (texts words.now)) (λ c. IsOneAnswer S.tells c result.status
         (record { files = S.file shelf.old; store_faults = S.store_faults shelf.old; out = O.taken out.old; out_faults = O.faults out.old; err = E.taken err.old; err_faults = E.faults err.old })
         (record { files = S.file shelf.new; store_faults = S.store_faults shelf.new; out = O.taken out.new; out_faults = O.faults out.new; err = E.taken err.new; err_faults = E.faults err.new })) }
 

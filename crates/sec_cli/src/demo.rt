@@ -1,5 +1,5 @@
 // The answer of `demo`: the line of a demo pair, and the verdict of its two netlists.
-ghost use Rattle.std.specs.Prelude.{◌≤◌, ◌≡◌, IfOk, is_some};
+ghost use Rattle.std.specs.Prelude.{◌≤◌, ◌≡◌, false, IfOk, is_some};
 ghost use Rattle.circ_model.specs.Meaning.{IsSoundPair};
 ghost use Rattle.demo_pair.specs.Demo.{IsDemo};
 ghost use Rattle.command_line.specs.Asked.{IsDemoWithin, check_asked};
@@ -19,7 +19,7 @@ use std::thread::Threads;
 // The pair of a size.
 fn demo_product(alloc: Global, n: u32) -> Result<Product, AllocError>
     requires { n ≤ 100000 }
-    ensures { IfOk result (λ p. IsDemo n p.left p.right) }
+    ensures { IfOk result (λ p. IsDemo n p.left p.right × (p.tied ≡ false)) }
 {
     let (left, right) = make_demo(alloc, n)?;
     match Product::new(alloc, left, right) {
@@ -36,11 +36,14 @@ fn check_of(d: &Demo) -> Check<'static>
         left: "",
         right: "",
         k: d.k,
+        depth: d.k,
         workers: d.workers,
         classes: false,
         stats: false,
         trace: None,
         cert: None,
+        tied: false,
+        least: false,
     }
 }
 

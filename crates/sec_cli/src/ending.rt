@@ -34,6 +34,8 @@ pub enum Unpaired {
     InputsDiffer(u32, u32),
     /// The numbers of outputs differ.
     OutputsDiffer(u32, u32),
+    /// The numbers of free latches differ, where these are tied.
+    FreeDiffer(u32, u32),
 }
 
 /// What a command answers.

@@ -2,6 +2,7 @@
 ghost use Rattle.std.specs.Prelude.{◌≡◌, ◌≢◌, ◌≤◌, ◌<◌, ◌^◌, ℕ, List, [], ◌∷◌, IsTrue, IfOk, IfErr, length, IsErrOf};
 ghost use Rattle.sec_base.specs.Faults.{Rose, appended};
 ghost use Rattle.circ_model.specs.Meaning.{IsSoundPair};
+ghost use Rattle.product_machine.specs.Faults.{Pairs};
 ghost use Rattle.sec_cli.specs.Endings.{IsRead, ArePair, AreAccepted, AreApart, IsNoPair, IsLoadFailed, unread_as, failed_load, failed_loads};
 ghost use Rattle.sec_cli.specs.declared.ending.Unread.TheVariants as Unread;
 
@@ -51,31 +52,44 @@ fn unread_as(side: Side, unread: Unread) -> Unpaired
     }
 }
 
-// The pair of two netlists.
-fn pair_of(alloc: Global, left: Netlist, right: Netlist) -> Result<Product, Unpaired>
-    ensures pair { IfOk result (λ p. (p ≡ record { left = left; right = right }) × IsSoundPair p) }
-    ensures apart { IfErr result (AreApart (record { left = left; right = right })) }
+// The two netlists on shared inputs, tied or not.
+fn paired(alloc: Global, left: Netlist, right: Netlist, tied: bool) -> Result<Product, PairFault>
+    ensures { Pairs tied left right result }
 {
-    match Product::new(alloc, left, right) {
+    if tied {
+        Product::tied(alloc, left, right)
+    } else {
+        Product::new(alloc, left, right)
+    }
+}
+
+// The pair of two netlists.
+fn pair_of(alloc: Global, left: Netlist, right: Netlist, tied: bool) -> Result<Product, Unpaired>
+    ensures pair { IfOk result (λ p. (p ≡ record { left = left; right = right; tied = tied }) × IsSoundPair p) }
+    ensures apart { IfErr result (AreApart (record { left = left; right = right; tied = tied })) }
+{
+    match paired(alloc, left, right, tied) {
         Ok(product) => {
             let _sound = product.cells();
             Ok(product)
         }
         Err(PairFault::Inputs(a, b)) => Err(Unpaired::InputsDiffer(a, b)),
         Err(PairFault::Outputs(a, b)) => Err(Unpaired::OutputsDiffer(a, b)),
+        Err(PairFault::Free(a, b)) => Err(Unpaired::FreeDiffer(a, b)),
         Err(PairFault::Memory) => Err(Unpaired::Memory),
     }
 }
 
-/// The pair of two files. The left one is loaded and read first.
+/// The pair of two files, tied or not. The left one is loaded and read first.
 pub(crate) fn load_pair<S: Shelf>(
     alloc: Global,
     shelf: &mut S,
     left: &str,
     right: &str,
+    tied: bool,
 ) -> Result<Product, Unpaired>
-    ensures pair { IsTrue S.tells → IfOk result (ArePair (S.file shelf.old left.now) (S.file shelf.old right.now)) }
-    ensures none { IsTrue S.tells → IfErr result (IsNoPair (S.file shelf.old left.now) (S.file shelf.old right.now)) }
+    ensures pair { IsTrue S.tells → IfOk result (ArePair tied (S.file shelf.old left.now) (S.file shelf.old right.now)) }
+    ensures none { IsTrue S.tells → IfErr result (IsNoPair tied (S.file shelf.old left.now) (S.file shelf.old right.now)) }
     ensures failed { IfErr result (λ u. IsLoadFailed u → Rose (S.load_faults shelf.old) (S.load_faults shelf.new)) }
     ensures files { S.file shelf.new ≡ S.file shelf.old }
     ensures names { S.failed shelf.new ≡ appended (S.failed shelf.old) (failed_loads left.now right.now result) }
@@ -87,7 +101,7 @@ pub(crate) fn load_pair<S: Shelf>(
         Err(unread) => return Err(unread_as(Side::Left, unread)),
     };
     match load_netlist(alloc, shelf, right) {
-        Ok(second) => pair_of(alloc, first, second),
+        Ok(second) => pair_of(alloc, first, second, tied),
         Err(unread) => Err(unread_as(Side::Right, unread)),
     }
 }

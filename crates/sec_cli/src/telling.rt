@@ -93,6 +93,7 @@ fn tell_unpaired<E: Sink>(err: &mut E, left: &str, right: &str, unpaired: Unpair
         }
         Unpaired::InputsDiffer(a, b) => tell_differ(err, b"inputs", a, b),
         Unpaired::OutputsDiffer(a, b) => tell_differ(err, b"outputs", a, b),
+        Unpaired::FreeDiffer(a, b) => tell_differ(err, b"free latches", a, b),
     }
 }
 
@@ -130,7 +131,10 @@ fn unpaired_status(unpaired: Unpaired) -> u8
     match unpaired {
         Unpaired::Memory => 7,
         Unpaired::LoadFailed(_) => 5,
-        Unpaired::Refused(_, _) | Unpaired::InputsDiffer(_, _) | Unpaired::OutputsDiffer(_, _) => 4,
+        Unpaired::Refused(_, _)
+        | Unpaired::InputsDiffer(_, _)
+        | Unpaired::OutputsDiffer(_, _)
+        | Unpaired::FreeDiffer(_, _) => 4,
     }
 }
 

@@ -95,6 +95,7 @@ fn cert_kind_name(kind: CertKind) -> &'static str
         CertKind::Outputs => "outputs",
         CertKind::Order => "order",
         CertKind::Derivation => "derivation",
+        CertKind::Tie => "tie",
     }
 }
 

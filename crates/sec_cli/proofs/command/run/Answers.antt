@@ -4,6 +4,7 @@ use Rattle.command_line.specs.Meant.{meant}
 use Rattle.command_line.specs.Plain.{texts}
 use Rattle.sec_cli.specs.Reports.{IsTold}
 use Rattle.sec_cli.specs.Runs.{IsJournalOfWords}
+use Rattle.sec_cli.proofs.OneAnswer.{only_answer}
 use Rattle.sec_cli.proofs.Concluding.{answered, quiet, refused, unread, is_load, unwritten, no_journal, told_memory, out_stays, names_stay, files_stay, within, some_and, no_memory_journal}
 use Rattle.sec_cli.proofs.command.run.Goals as goal
 
@@ -22,6 +23,7 @@ returns-in-Ok g c =
       told_usage = λ three. absurd (bounds.1 three);
       status = bounds.0;
       answered = λ le. some_and (meant words) command _ is (answered tells command e p.result.journal _ _ p.result.status low has from ended report le);
+      one_answer = λ le. some_and (meant words) command _ is (only_answer tells command p.result.status p.result.journal _ _ (answered tells command e p.result.journal _ _ p.result.status low has from ended report le));
       refused = λ four. some_and (meant words) command _ is (refused tells command e _ _ p.result.status low ended report four);
       load_rose = λ five. load (is_load tells command e _ _ p.result.status low report five);
       unread = λ five. some_and (meant words) command _ is (unread tells command e _ _ _ _ p.result.status low ended named report five);
