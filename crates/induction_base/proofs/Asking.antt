@@ -8,7 +8,6 @@ use Rattle.frame_unroll.specs.Unrolled.{Unrolling, Differs, IsSought, from_reset
 use Rattle.frame_unroll.specs.Found.{IsSeen, IsFound, NoneSought, asks, asking}
 use Rattle.frame_unroll.specs.declared.found.Found.{Found}
 use Rattle.frame_unroll.specs.declared.found.Found.TheVariants as found
-use Rattle.sat_log.specs.declared.log.Log.{Log}
 use Rattle.frame_unroll.specs.declared.found.Seen.{Seen}
 use Rattle.induction_base.specs.declared.base.Base.{Base}
 use Rattle.induction_base.specs.declared.base.Base.TheVariants.{Holds, Breaks}

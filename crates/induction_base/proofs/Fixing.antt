@@ -1,12 +1,12 @@
 -- One bit after another is fixed.
-use Rattle.std.proofs.Common.{◌≡◌, ◌∙◌, ◌<◌, ◌≤◌, ◌+◌, ◌-◌, ◌*◌, ◌/◌, ◌++◌, ℕ, List, [], ◌∷◌, length, inl, inr, Option, Some, None, refl, sym, ap, ap₂, subst, arith, Bool, true, false, not, true≢false, ext_get_or, take}
+use Rattle.std.proofs.Common.{◌≡◌, ◌∙◌, ◌<◌, ◌+◌, ◌*◌, ◌/◌, ◌++◌, ℕ, List, [], ◌∷◌, length, inl, inr, Option, Some, None, refl, sym, ap, ap₂, subst, arith, Bool, true, false, not, true≢false, ext_get_or, take}
 use Rattle.std.proofs.lemmas.List.{take-append-le, take_all}
 use Rattle.std.specs.List.{All}
 use Rattle.std.proofs.lemmas.Bool.{cases_lt}
 use Rattle.std.proofs.lemmas.List.Elements.{All-pop, All-push, All-nil}
 use Rattle.circ_model.specs.Meaning.{Pair, Path, IsSoundPair, IsPath, bit, is_odd, latches_of, negated, outputs_of, row_at, value_in}
 use Rattle.circ_model.specs.Correspondence.{HoldsIn, IsLiteral}
-use Rattle.circ_model.specs.Verdict.{IsFirstDifference, IsLeastDifference, OutputAgrees}
+use Rattle.circ_model.specs.Verdict.{IsFirstDifference, IsLeastDifference}
 use Rattle.circ_model.proofs.First.{least_is_first}
 use Rattle.circ_model.proofs.Literals.{half_literal, negated_value}
 use Rattle.circ_model.proofs.Outputs.{agree_where_held}
@@ -17,7 +17,7 @@ use Rattle.frame_unroll.specs.Unrolled.{Unrolling, Differs, IsSought, from_reset
 use Rattle.induction_base.specs.Fixing.{IsFixed, IsLower, IsZeroAt}
 use Rattle.induction_base.specs.declared.difference.Diff.{Diff}
 use Rattle.induction_base.specs.LeastRun.{DiffersAtEnd, IsLeastRun, IsLeastRunOf}
-use Rattle.induction_base.specs.Spelling.{ComesBefore, SameBelow, spelled}
+use Rattle.induction_base.specs.Spelling.{SameBelow, spelled}
 use Rattle.induction_base.proofs.Asking.{same_or_apart}
 use Rattle.induction_base.proofs.Least.{output_differs}
 use Rattle.induction_base.proofs.Spelling.{length_spelled, ordered, same_back, same_less, same_more, same_through, spelled_once}

@@ -1,5 +1,5 @@
 -- The least difference, frame by frame and output by output.
-use Rattle.std.proofs.Common.{◌≡◌, ◌∙◌, ◌<◌, ◌≤◌, ℕ, ◌+◌, length, slice_index, inl, inr, Option, Some, None, sym, subst, arith}
+use Rattle.std.proofs.Common.{◌≡◌, ◌∙◌, ◌<◌, ℕ, ◌+◌, length, slice_index, inl, inr, sym, subst, arith}
 use Rattle.std.proofs.lemmas.Bool.{cases_lt}
 use Rattle.circ_model.specs.Meaning.{Pair, Path, IsSoundPair, IsPath, IsRun, outputs_of, row_at, value_in}
 use Rattle.circ_model.specs.Correspondence.{HoldsIn, IsLiteral}
@@ -13,7 +13,7 @@ use Rattle.frame_unroll.specs.Unrolled.{Differs}
 use Rattle.induction_base.specs.declared.difference.Diff.{Diff}
 use Rattle.induction_base.specs.Least.{IsShown}
 use Rattle.induction_base.specs.LeastRun.{DiffersAtEnd}
-use Rattle.induction_base.specs.Search.{AgreesAt, ApartAtEnd, HoldAt, IsApartOrNone, IsFoundIn, IsLeastIn}
+use Rattle.induction_base.specs.Search.{AgreesAt, ApartAtEnd, HoldAt, IsFoundIn}
 use Rattle.induction_base.proofs.Asking.{not_both}
 
 -- both literals of an output stand in the row

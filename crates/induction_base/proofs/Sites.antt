@@ -1,5 +1,5 @@
 -- Where the bits that spell a path stand in its rows.
-use Rattle.std.proofs.Common.{◌≡◌, ◌∙◌, ◌<◌, ◌≤◌, ◌+◌, ◌-◌, ◌*◌, ◌/◌, ℕ, length, sym, ap, subst, arith, Bool, true, not}
+use Rattle.std.proofs.Common.{◌≡◌, ◌∙◌, ◌<◌, ◌≤◌, ◌+◌, ◌-◌, ◌*◌, ◌/◌, ℕ, length, sym, ap, subst, arith, true, not}
 use Rattle.circ_model.specs.Meaning.{Pair, Path, IsSoundPair, IsPath, bit, inputs_at, latches_of, left_from, literal, right_from, row_at, value_in}
 use Rattle.circ_model.proofs.Literals.{half_literal, value_of_literal}
 use Rattle.circ_model.proofs.Rows.{length_own, length_places}

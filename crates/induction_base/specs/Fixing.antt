@@ -1,5 +1,5 @@
 -- How the least run is found: one bit after another is fixed.
-use Rattle.std.specs.Prelude.{◌≡◌, ℕ, ◌+◌, ◌<◌, List, All, length, Bool, true, false, not, Option, Some, None}
+use Rattle.std.specs.Prelude.{◌≡◌, ℕ, ◌+◌, ◌<◌, List, All, length, true, false, not, Option, Some, None}
 use Rattle.circ_model.specs.Meaning.{Pair, Path, IsPath, bit, row_at, value_in}
 use Rattle.circ_model.specs.Correspondence.{IsLiteral}
 use Rattle.frame_unroll.specs.Assuming.{IsTrueAt}

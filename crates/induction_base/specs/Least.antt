@@ -1,6 +1,6 @@
 -- The least difference below a depth, and a run that shows it.
 use Rattle.std.specs.Prelude.{◌≡◌, ℕ, ◌+◌, ◌<◌, length, Option, Some, None}
-use Rattle.circ_model.specs.Meaning.{Pair, Path, IsRun}
+use Rattle.circ_model.specs.Meaning.{Pair, IsRun}
 use Rattle.circ_model.specs.Verdict.{AgreeBelow, IsFirstDifference, IsLeastDifference}
 use Rattle.induction_base.specs.declared.difference.Diff.{Diff}
 

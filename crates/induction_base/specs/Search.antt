@@ -1,8 +1,10 @@
 -- How the least difference is found: frame by frame, and in a frame output by output.
 use Rattle.std.specs.Prelude.{◌≡◌, ℕ, ◌+◌, ◌<◌, ◌≤◌, length, Option, Some, None}
-use Rattle.circ_model.specs.Meaning.{Pair, Path, IsRun, outputs_of, row_at}
+use Rattle.circ_model.specs.Meaning.{Pair, Path, IsRun, outputs_of, places_of, row_at}
 use Rattle.circ_model.specs.Correspondence.{HoldsIn}
 use Rattle.circ_model.specs.Verdict.{OutputAgrees}
+use Rattle.class_partition.specs.Classes.{Classes}
+use Rattle.class_partition.specs.Laws.{PairOutput}
 use Rattle.frame_unroll.specs.Unrolled.{Differs, Unrolling, from_reset}
 use Rattle.induction_base.specs.declared.difference.Diff.{Diff}
 use Rattle.induction_base.specs.LeastRun.{DiffersAtEnd}
@@ -40,3 +42,8 @@ pub record IsFoundIn (pair : Pair) (t : ℕ) (d : Diff) : Type 0 where
 abbrev pub IsLeastIn : Pair → ℕ → Option Diff → Type 0
 IsLeastIn pair t (Some d) = IsFoundIn pair t d
 IsLeastIn pair t None = (i : ℕ) → i < outputs_of pair → AgreesAt pair t i
+
+-- the outputs that the classes pair agree in every frame of every run
+pub record HoldOutputs (pair : Pair) (classes : Classes) : Type 0 where
+  pub places : length classes.least ≡ places_of pair
+  pub agree : (t j : ℕ) → j < outputs_of pair → PairOutput pair classes j → AgreesAt pair t j

@@ -1,18 +1,19 @@
 //! The least difference, frame by frame: a frame is mapped onto a hashed graph when it is reached, and its outputs are asked for one
 //! after another. All frames before it agree on every run, and so do the outputs before one of its own, so the first run on which an
 //! output differs shows the least difference.
-ghost use Rattle.std.specs.Prelude.{◌≡◌, ◌<◌, ◌≤◌, ◌+◌, ◌/◌, IfOk, OnOk};
+ghost use Rattle.std.specs.Prelude.{◌≡◌, ◌<◌, ◌≤◌, ◌+◌, ◌/◌, ℕ, IfOk, IfSome, IsTrue, OnOk};
 ghost use Rattle.circ_model.specs.Meaning.{outputs_of};
 ghost use Rattle.circ_model.specs.Verdict.{AgreeBelow};
 ghost use Rattle.frame_graph.specs.Maps.{IsResetMap};
 ghost use Rattle.induction_base.specs.Least.{IsLeastOrNone};
-ghost use Rattle.induction_base.specs.Search.{IsApartOrNone, IsLeastIn};
+ghost use Rattle.induction_base.specs.Search.{AgreesAt, HoldOutputs, IsApartOrNone, IsLeastIn};
 ghost use Rattle.product_machine.specs.States.{output_pair};
 
 use crate::pattern_runs::run_apart;
 use crate::whole_frames::WholeFrames;
 use and_graph::{Asker, Graph};
 use circ_model::Lit;
+use class_partition::Classes;
 use frame_graph::FrameMap;
 use product_machine::{Path, Product};
 use std::alloc::{AllocError, Global};
@@ -36,14 +37,58 @@ pub fn least_difference(
     requires few { k ≤ 64 }
     ensures { IfOk result (IsLeastOrNone product.now k) }
 {
+    search(alloc, product, None, k)
+}
+
+/// The same where it is known of outputs that classes pair that they agree in every frame of every run, as those of a signal
+/// correspondence do: only the others are asked for.
+pub fn least_difference_beyond(
+    alloc: Global,
+    product: &Product,
+    classes: &Classes,
+    k: u32,
+) -> Result<Option<Diff>, AllocError>
+    requires some { 0 < k }
+    requires few { k ≤ 64 }
+    requires hold { HoldOutputs product.now classes.now }
+    ensures { IfOk result (IsLeastOrNone product.now k) }
+{
+    search(alloc, product, Some(classes), k)
+}
+
+// The least difference, on a graph of its own.
+fn search(
+    alloc: Global,
+    product: &Product,
+    held: Option<&Classes>,
+    k: u32,
+) -> Result<Option<Diff>, AllocError>
+    requires few { k ≤ 64 }
+    requires held { IfSome held (λ c. HoldOutputs product.now c.now) }
+    ensures { IfOk result (IsLeastOrNone product.now k) }
+{
     let mut graph = Graph::new(alloc, 1023)?;
     let mut asker = Asker::new(alloc)?;
     let mut whole = WholeFrames::new(product);
-    let found = search(alloc, product, &mut graph, &mut asker, &mut whole, k);
+    let found = in_frames(alloc, product, held, &mut graph, &mut asker, &mut whole, k);
     drop(whole);
     drop(asker);
     drop(graph);
     found
+}
+
+// Whether an output is known to agree in every frame of every run.
+fn is_held(product: &Product, held: Option<&Classes>, j: u32) -> bool
+    requires output { j < outputs_of product.now }
+    requires held { IfSome held (λ c. HoldOutputs product.now c.now) }
+    ensures { IsTrue result → (t : ℕ) → AgreesAt product.now t j }
+{
+    let _cells = product.cells();
+    let (a, b) = product.output(j);
+    match held {
+        Some(classes) => classes.paired(a, b),
+        None => false,
+    }
 }
 
 // Whether an output differs in the last frame that is mapped: a run that shows it, or none.
@@ -82,6 +127,7 @@ fn apart(
 fn in_frame(
     alloc: Global,
     product: &Product,
+    held: Option<&Classes>,
     map: &FrameMap<'_>,
     graph: &mut Graph,
     asker: &mut Asker,
@@ -93,12 +139,16 @@ fn in_frame(
     requires depth { map.now.depth ≡ t + 1 }
     requires map { IsResetMap graph.old map.now }
     requires whole { whole.old ≡ product.now }
+    requires held { IfSome held (λ c. HoldOutputs product.now c.now) }
     ensures map { IsResetMap graph.new map.now }
     ensures whole { whole.new ≡ product.now }
     ensures found { IfOk result (IsLeastIn product.now t) }
 {
     let _cells = product.cells();
     for j in 0..product.outputs() {
+        if is_held(product, held, j) {
+            continue;
+        }
         if let Some(run) = apart(alloc, product, map, graph, asker, whole, t, j)? {
             return Ok(Some(Diff {
                 frame: t,
@@ -111,9 +161,10 @@ fn in_frame(
 }
 
 // The least difference below k, frame by frame.
-fn search(
+fn in_frames(
     alloc: Global,
     product: &Product,
+    held: Option<&Classes>,
     graph: &mut Graph,
     asker: &mut Asker,
     whole: &mut WholeFrames<'_>,
@@ -121,13 +172,14 @@ fn search(
 ) -> Result<Option<Diff>, AllocError>
     requires few { k ≤ 64 }
     requires whole { whole.old ≡ product.now }
+    requires held { IfSome held (λ c. HoldOutputs product.now c.now) }
     ensures { IfOk result (IsLeastOrNone product.now k) }
 {
     let mut map = FrameMap::new(alloc, product, graph, k)?;
     map.map_reset(graph, 0)?;
     for t in 0..k {
         map.next_reset(graph)?;
-        if let Some(found) = in_frame(alloc, product, &map, graph, asker, whole, t)? {
+        if let Some(found) = in_frame(alloc, product, held, &map, graph, asker, whole, t)? {
             return Ok(Some(found));
         }
     }

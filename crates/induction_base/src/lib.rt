@@ -14,6 +14,6 @@ mod rows;
 mod whole_frames;
 
 pub use base::{Base, base_holds};
-pub use difference::{Diff, least_difference};
+pub use difference::{Diff, least_difference, least_difference_beyond};
 pub use laws::one_least_run;
 pub use lexicographic::least_run;

@@ -16,7 +16,7 @@ use class_partition::Classes;
 use class_text::push_class_lines;
 use command_line::Check;
 use corr_certificate::write_cert;
-use induction_base::{Diff, least_difference, least_run};
+use induction_base::{Diff, least_difference, least_difference_beyond, least_run};
 use product_machine::Product;
 use refine_board::Journal;
 use sec_base::Gate;
@@ -94,21 +94,25 @@ fn push_lines(
     push_stats(alloc, c, journal, text)
 }
 
-// The least difference below the depth, where the outputs agree in the first frame.
+// The least difference below the depth, where the outputs agree in the first frame. Those that the classes pair agree for ever, so
+// only the others are asked for.
 fn deeper_difference(
     alloc: Global,
     product: &Product,
-    depth: u32,
+    c: &Check,
+    classes: &Classes,
 ) -> Result<Option<Diff>, AllocError>
+    requires sound { IsSoundPair product.now }
+    requires partition { ArePartition (places_of product.now) classes.now }
+    requires greatest { AreOfGreatest product.now c.now.k classes.now }
     requires agree { AgreeBelow product.now 1 }
-    requires some { 0 < depth }
-    requires few { depth ≤ 64 }
-    ensures { IfOk result (IsLeastOrNone product.now depth) }
+    requires within { IsCheckWithin (check_asked c.now) }
+    ensures { IfOk result (IsLeastOrNone product.now c.now.depth) }
 {
-    if depth == 1 {
+    if c.depth == 1 {
         return Ok(None);
     }
-    least_difference(alloc, product, depth)
+    least_difference_beyond(alloc, product, classes, c.depth)
 }
 
 // The answer by the classes of the greatest correspondence, where no run differs in the first frame. Where the classes pair all
@@ -135,7 +139,7 @@ fn answer_by(
     if outputs.is_empty() {
         return equivalent(alloc, product, c, classes, journal);
     }
-    match deeper_difference(alloc, product, c.depth)? {
+    match deeper_difference(alloc, product, c, classes)? {
         Some(diff) => different(alloc, product, c, diff),
         None => undecided(alloc, product, c, classes, journal, outputs.as_slice()),
     }

@@ -233,7 +233,8 @@ fn perform<R: Threads + Wait + Sync, S: Shelf, O: Sink, E: Sink, G: Gate>(
 /// [--classes] [--stats] [--trace FILE] [--cert FILE] [--tie] [--least]`, `replay LEFT RIGHT TRACE [--tie]`,
 /// `verify LEFT RIGHT CERT [--tie]` or `demo N [-k K] [-j J]`.
 /// `check` decides by signal correspondence with k-induction (van Eijk, IEEE TCAD 19(7), 2000; Sheeran, Singh, Stålmarck,
-/// FMCAD 2000) after a search for a difference in the first k frames, or the first D where these are more; `replay` tells the first difference of a stored trace;
+/// FMCAD 2000), and where that leaves outputs unpaired by a search for a difference in the first k frames, or the first D where
+/// these are more; `replay` tells the first difference of a stored trace;
 /// `verify` reads a stored certificate, without solver or threads; `demo` checks a pair of any size that it makes itself.
 /// `check` and `demo` refine the classes by J workers, in threads that `rt` starts; they may wait for one another, and the
 /// gate may hold them. The verdict and the classes are the same however they go on; with `--least` so is the trace of a difference.

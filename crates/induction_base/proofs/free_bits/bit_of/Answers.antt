@@ -1,4 +1,4 @@
-use Rattle.std.proofs.Common.{◌∙◌, length, ap, arith, subst}
+use Rattle.std.proofs.Common.{◌∙◌, length, ap, arith}
 use Rattle.circ_model.specs.Meaning.{Path, bit, inputs_at}
 use Rattle.induction_base.proofs.Sites.{input_read}
 use Rattle.induction_base.proofs.free_bits.bit_of.Goals as goal

@@ -1,5 +1,5 @@
 use Rattle.std.proofs.Common.{◌≡◌, ◌∙◌, ◌++◌, ◌∷◌, [], sym, subst, arith}
-use Rattle.std.specs.Prelude.{Option, Some, None, List, ℕ}
+use Rattle.std.specs.Prelude.{Option, Some, List, ℕ}
 use Rattle.circ_model.specs.Meaning.{Path}
 use Rattle.induction_base.specs.Fixing.{IsLower}
 use Rattle.induction_base.proofs.Fixing.{fixed_found, fixed_high, fixed_low, literals_with, raised}

@@ -1,7 +1,7 @@
 use Rattle.std.proofs.Common.{◌≡◌}
 use Rattle.circ_model.specs.Verdict.{AgreeBelow}
 use Rattle.frame_graph.specs.Maps.{IsResetMap}
-use Rattle.induction_base.proofs.difference.search.Given as goal
+use Rattle.induction_base.proofs.difference.in_frames.Given as goal
 
 abbrev pub invariant-loop-t : goal.invariant-loop-t
 invariant-loop-t l = record {

@@ -4,7 +4,7 @@ use Rattle.frame_graph.specs.Leaves.{Leaves}
 use Rattle.induction_base.specs.declared.difference.Diff.{Diff}
 use Rattle.induction_base.specs.Search.{IsLeastIn}
 use Rattle.induction_base.proofs.Least.{is_shown, one_more_frame}
-use Rattle.induction_base.proofs.difference.search.Goals as goal
+use Rattle.induction_base.proofs.difference.in_frames.Goals as goal
 
 pub returns-in-Some : goal.returns-in-Some
 returns-in-Some c =
