@@ -1,12 +1,11 @@
 -- Answers of `check`, by the verdict.
-use Rattle.std.proofs.Common.{◌≡◌, ◌≢◌, ◌<◌, ◌≤◌, ◌++◌, ℕ, List, [], Option, Some, refl, subst, arith}
+use Rattle.std.proofs.Common.{◌≡◌, ◌≢◌, ◌<◌, ◌++◌, ℕ, List, [], Option, Some, refl, subst}
 use Rattle.circ_model.specs.Meaning.{Pair, IsSoundPair, outputs_of, places_of}
 use Rattle.circ_model.specs.Verdict.{AgreeBelow, Equivalent, Undecided, Different}
 use Rattle.class_partition.specs.Classes.{Classes, ArePartition, AreOfGreatest, class_count}
 use Rattle.class_partition.specs.Laws.{PairOutput}
 use Rattle.class_partition.proofs.Verdicts.{is_equivalent, is_undecided}
 use Rattle.induction_base.specs.declared.difference.Diff.{Diff}
-use Rattle.induction_base.specs.Least.{IsShown}
 use Rattle.trace_witness.specs.Texts.{trace_text}
 use Rattle.refine_board.specs.Running.{Written}
 use Rattle.sec_cli.specs.Answers.{IsCertOf, IsRefinedText, IsShownAs, IsVerdictAnswer}
@@ -28,7 +27,3 @@ pub different_answer : (pair : Pair) (c : CheckAsked) (d : Diff) (journal : Opti
 different_answer pair c d journal text trace told stored is =
     let shown = told.shown in
     (Different d.frame d.output, (shown.below, shown.least), refl, (d.run, record { is_run = shown.is_run; rows = shown.rows; first = shown.first }, told.least, stored, is))
-
--- what is shown below a depth is shown below a greater one
-pub shown_deeper : (pair : Pair) (m n : ℕ) (d : Diff) → m ≤ n → IsShown pair m d → IsShown pair n d
-shown_deeper pair m n d deeper shown = record { below = omega (arith, shown.below, deeper); least = shown.least; is_run = shown.is_run; rows = shown.rows; first = shown.first }
