@@ -61,52 +61,6 @@ fn toggling_latches_start_where_their_lanes_say(rt: HostRuntime) -> Result<(), F
     Ok(())
 }
 
-// A pair of latches that toggle, whose free latches are tied.
-fn tied_toggles(alloc: Global, left: Lit, right: Lit) -> Result<Product, PairFault> {
-    match (toggle(alloc, left), toggle(alloc, right)) {
-        (Ok(left), Ok(right)) => Product::tied(alloc, left, right),
-        _ => Err(PairFault::Memory),
-    }
-}
-
-#[test]
-fn tied_latches_start_with_one_word(rt: HostRuntime) -> Result<(), Fail> {
-    let alloc = rt.alloc();
-    match tied_toggles(alloc, literal(2), literal(2)) {
-        Ok(product) => {
-            let start = 0x00ff_0000_1234_5678u64;
-            let mut sim = SimState::new(alloc, &product)?;
-            assert!(rt;
-                product.is_tied()
-                    && sim.free_latches() == 1
-                    && product.inputs() == 0
-                    && product.len() == 3
-            );
-            if sim.free_latches() == 1
-                && product.inputs() == 0
-                && product.latches() == 2
-                && product.len() == 3
-            {
-                assert!(rt; product.tie(0).is_none());
-                assert_eq!(rt; product.tie(1).unwrap_or(7), 0);
-                sim.reset(&[start]);
-                sim.step(&[]);
-                assert_eq!(rt; [sim.word(0), sim.word(1), sim.word(2)], [0, start, start]);
-            }
-        }
-        Err(_) => assert!(rt; false),
-    }
-    Ok(())
-}
-
-#[test]
-fn free_latches_are_counted_before_they_are_tied(rt: HostRuntime) {
-    match tied_toggles(rt.alloc(), literal(1), literal(2)) {
-        Err(PairFault::Free(left, right)) => assert_eq!(rt; [left, right], [0, 1]),
-        _ => assert!(rt; false),
-    }
-}
-
 #[test]
 fn a_seed_repeats_its_words(rt: HostRuntime) {
     let mut whole = [0; 3];
