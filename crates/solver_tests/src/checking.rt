@@ -1,79 +1,66 @@
-ghost use Rattle.std.specs.Prelude.{◌<◌};
-ghost use Rattle.std.specs.List.{All};
-
-use cnf_store::Cnf;
+use dimacs_text::read_dimacs;
 use log_check::{check, first_bad};
-use sat_log::Log;
-use std::alloc::{AllocError, Global};
+use sat_log::read_log;
+use std::alloc::Global;
 use std::test::Fail;
 
-// The fault of a log of one line that derives the empty clause.
-fn fault(alloc: Global, cnf: &Cnf, hints: &[u64]) -> Result<Option<u64>, AllocError>
-    requires { All (λ h. 0 < h) hints.now }
-{
-    let mut log = Log::new(alloc);
-    log.add(&[], hints)?;
-    first_bad(alloc, cnf, &log)
+// Whether this is the first bad line of a log over a formula, or none is bad.
+fn is_first_bad(alloc: Global, formula: &[u8], log: &[u8], bad: Option<u64>) -> bool {
+    match (read_dimacs(alloc, formula), read_log(alloc, log)) {
+        (Ok(formula), Ok(log)) => first_bad(alloc, &formula, &log) == Ok(bad),
+        _ => false,
+    }
 }
 
-// The fault of a log of two lines: not variable 2, and the empty clause.
-fn second_fault(
-    alloc: Global,
-    cnf: &Cnf,
-    first: &[u64],
-    second: &[u64],
-) -> Result<Option<u64>, AllocError>
-    requires first { All (λ h. 0 < h) first.now }
-    requires second { All (λ h. 0 < h) second.now }
-{
-    let mut log = Log::new(alloc);
-    log.add(&[-2], first)?;
-    log.add(&[], second)?;
-    first_bad(alloc, cnf, &log)
+// Whether a log over a formula is accepted, or else refused.
+fn is_checked(alloc: Global, formula: &[u8], log: &[u8], accepted: bool) -> bool {
+    match (read_dimacs(alloc, formula), read_log(alloc, log)) {
+        (Ok(formula), Ok(log)) => check(alloc, &formula, &log) == Ok(accepted),
+        _ => false,
+    }
 }
 
 #[test]
 fn a_hint_left_out_doubled_out_of_order_or_of_itself_is_the_fault(
     rt: HostRuntime,
 ) -> Result<(), Fail> {
-    let alloc = rt.alloc();
-    let mut base = Cnf::new(alloc, 4)?;
-    base.add(&[-1])?;
-    base.add(&[-2])?;
-    base.add(&[-3])?;
-    base.add(&[-4, 2, 3])?;
-    base.add(&[-4, -2, -3])?;
-    base.add(&[4])?;
-    assert!(rt; fault(alloc, &base, &[6, 2, 3, 4])? == None);
-    assert!(rt; fault(alloc, &base, &[6, 2, 4])? == Some(0));
-    assert!(rt; fault(alloc, &base, &[6, 6, 2, 3, 4])? == Some(0));
-    assert!(rt; fault(alloc, &base, &[4, 6, 2, 3])? == Some(0));
-    assert!(rt; fault(alloc, &base, &[6, 2, 3, 7])? == Some(0));
-    assert!(rt; !check(alloc, &base, &Log::new(alloc))?);
+    let formula = b"p cnf 4 6\n-1 0\n-2 0\n-3 0\n-4 2 3 0\n-4 -2 -3 0\n4 0\n".as_slice();
+    for (log, bad) in [
+        (b"0 6 2 3 4 0\n".as_slice(), None),
+        (b"0 6 2 4 0\n".as_slice(), Some(0)),
+        (b"0 6 6 2 3 4 0\n".as_slice(), Some(0)),
+        (b"0 4 6 2 3 0\n".as_slice(), Some(0)),
+        (b"0 6 2 3 7 0\n".as_slice(), Some(0)),
+    ] {
+        assert!(rt; is_first_bad(rt.alloc(), formula, log, bad));
+        assert!(rt; is_checked(rt.alloc(), formula, log, bad == None));
+    }
+    assert!(rt; is_checked(rt.alloc(), formula, b"".as_slice(), false));
     Ok(())
 }
 
 #[test]
 fn a_second_line_rests_on_the_first(rt: HostRuntime) -> Result<(), Fail> {
-    let alloc = rt.alloc();
-    let mut step = Cnf::new(alloc, 7)?;
-    step.add(&[-1])?;
-    step.add(&[-4])?;
-    step.add(&[-5, -2])?;
-    step.add(&[5, 2])?;
-    step.add(&[-6, -3])?;
-    step.add(&[6, 3])?;
-    step.add(&[-3, 2])?;
-    step.add(&[3, -2])?;
-    step.add(&[-7, 5, 6])?;
-    step.add(&[-7, -5, -6])?;
-    step.add(&[7])?;
-    let first: &[u64] = &[3, 8, 5, 11, 9];
-    assert!(rt; second_fault(alloc, &step, first, &[12, 4, 7, 6, 11, 10])? == None);
-    assert!(rt; second_fault(alloc, &step, first, &[12, 4, 7, 6, 11])? == Some(1));
-    assert!(rt; second_fault(alloc, &step, first, &[12, 12, 4, 7, 6, 11, 10])? == Some(1));
-    assert!(rt; second_fault(alloc, &step, first, &[4, 12, 7, 6, 11, 10])? == Some(1));
-    assert!(rt; second_fault(alloc, &step, first, &[12, 4, 7, 6, 11, 13])? == Some(1));
-    assert!(rt; second_fault(alloc, &step, &[3, 8, 5, 11, 12], first)? == Some(0));
+    let formula =
+        b"p cnf 7 11\n-1 0\n-4 0\n-5 -2 0\n5 2 0\n-6 -3 0\n6 3 0\n-3 2 0\n3 -2 0\n-7 5 6 0\n-7 -5 -6 0\n7 0\n";
+    for (log, bad) in [
+        (b"-2 0 3 8 5 11 9 0\n0 12 4 7 6 11 10 0\n".as_slice(), None),
+        (b"-2 0 3 8 5 11 9 0\n0 12 4 7 6 11 0\n".as_slice(), Some(1)),
+        (
+            b"-2 0 3 8 5 11 9 0\n0 12 12 4 7 6 11 10 0\n".as_slice(),
+            Some(1),
+        ),
+        (
+            b"-2 0 3 8 5 11 9 0\n0 4 12 7 6 11 10 0\n".as_slice(),
+            Some(1),
+        ),
+        (
+            b"-2 0 3 8 5 11 9 0\n0 12 4 7 6 11 13 0\n".as_slice(),
+            Some(1),
+        ),
+        (b"-2 0 3 8 5 11 12 0\n0 3 8 5 11 9 0\n".as_slice(), Some(0)),
+    ] {
+        assert!(rt; is_first_bad(rt.alloc(), formula.as_slice(), log, bad));
+    }
     Ok(())
 }

@@ -16,8 +16,8 @@ fn fault_of(alloc: Global, text: &[u8]) -> Option<DimacsFault> {
     }
 }
 
-// Whether a text has an answer, and where there is a log the checker accepts it.
-fn is_answered(alloc: Global, text: &[u8], satisfiable: bool) -> bool {
+// Whether this is the answer to a text, and the row is whole or the checker accepts the log.
+pub(crate) fn is_answered(alloc: Global, text: &[u8], satisfiable: bool) -> bool {
     match read_dimacs(alloc, text) {
         Ok(formula) => is_decided(alloc, &formula, satisfiable),
         Err(_) => false,
@@ -116,6 +116,9 @@ fn formulas_with_known_answers(rt: HostRuntime) -> Result<(), Fail> {
         // the empty clause
         (b"p cnf 0 1\n0\n".as_slice(), false),
         (b"p cnf 2 2\n1 2 0\n0\n".as_slice(), false),
+        // opposite units, and a clause of two
+        (b"p cnf 1 2\n1 0\n-1 0\n".as_slice(), false),
+        (b"p cnf 2 1\n1 2 0\n".as_slice(), true),
         // a chain of units, open at its end and closed
         (b"p cnf 4 4\n1 0\n-1 2 0\n-2 3 0\n-3 4 0\n".as_slice(), true),
         (

@@ -4,53 +4,48 @@ use sat_guide::{Near, Order, Pace, Uses, Watches};
 use std::alloc::{AllocError, Global};
 use std::test::Fail;
 
-// The clause to which the fall of a literal leads first.
-fn first_due(
-    alloc: Global,
-    watches: &mut Watches,
-    fallen: u32,
-    values: &[Value],
-) -> Result<Option<usize>, AllocError> {
-    let mut sweep = watches.begin(alloc, fallen);
-    let mut near = Near::new(alloc, 0)?;
-    near.open();
-    let due = watches.advance(&mut sweep, values, &near)?;
-    watches.end(sweep);
-    Ok(due)
-}
-
-#[test]
-fn a_clause_is_due_when_one_literal_is_left(rt: HostRuntime) -> Result<(), Fail> {
-    let alloc = rt.alloc();
+// Watches the clause of three plain literals.
+fn watch_one(alloc: Global, watches: &mut Watches) -> Result<(), AllocError> {
     let none = Arena::new(alloc);
     let mut own = Arena::new(alloc);
     own.add(&[0, 2, 4])?;
     let db = Clauses::new(Joined::new(&none, &own)?, Arena::new(alloc));
-    let mut watches = Watches::new(alloc, 3)?;
-    watches.attach(&db, &[], &[])?;
-    let free = Value::Free;
-    let one = [Value::False, Value::True, free, free, free, free];
-    assert!(rt; first_due(alloc, &mut watches, 0, &one)? == None);
-    let two = [
-        Value::False,
-        Value::True,
-        Value::False,
-        Value::True,
-        free,
-        free,
-    ];
-    assert!(rt; first_due(alloc, &mut watches, 2, &two)? == Some(0));
-    let all = [
-        Value::False,
-        Value::True,
-        Value::False,
-        Value::True,
-        Value::True,
-        Value::False,
-    ];
-    assert!(rt; first_due(alloc, &mut watches, 2, &all)? == None);
+    watches.attach(&db, &[], &[])
+}
+
+// Whether the fall of a literal leads first to this clause, or to none.
+fn leads_to(
+    alloc: Global,
+    watches: &mut Watches,
+    fallen: u32,
+    values: &[Value],
+    clause: Option<usize>,
+) -> bool {
+    let Ok(mut near) = Near::new(alloc, 0) else {
+        return false;
+    };
+    near.open();
+    let mut sweep = watches.begin(alloc, fallen);
+    let due = watches.advance(&mut sweep, values, &near);
+    watches.end(sweep);
+    due == Ok(clause)
+}
+
+#[test]
+fn a_clause_is_due_when_one_literal_is_left(rt: HostRuntime) -> Result<(), Fail> {
+    let mut watches = Watches::new(rt.alloc(), 3)?;
+    watch_one(rt.alloc(), &mut watches)?;
+    let (low, high, free) = (Value::False, Value::True, Value::Free);
+    for (fallen, values, due) in [
+        (0, [low, high, free, free, free, free], None),
+        (2, [low, high, low, high, free, free], Some(0)),
+        (2, [low, high, low, high, high, low], None),
+    ] {
+        assert!(rt; leads_to(rt.alloc(), &mut watches, fallen, &values, due));
+    }
     watches.clear(1);
-    assert!(rt; first_due(alloc, &mut watches, 2, &two)? == None);
+    let values = [low, high, low, high, free, free];
+    assert!(rt; leads_to(rt.alloc(), &mut watches, 2, &values, None));
     Ok(())
 }
 
@@ -61,14 +56,7 @@ fn what_is_raised_most_is_decided_first_by_its_last_value(rt: HostRuntime) -> Re
     order.raise(1);
     order.grow();
     order.raise(1);
-    let free = [
-        Value::Free,
-        Value::Free,
-        Value::Free,
-        Value::Free,
-        Value::Free,
-        Value::Free,
-    ];
+    let free = [Value::Free; 6];
     assert!(rt; order.pick(&free) == Some(1) && order.pick(&free) == Some(2));
     assert!(rt; !order.phase_of(1));
     order.release(2)?;
@@ -86,19 +74,29 @@ fn restarts_follow_lubys_sequence(rt: HostRuntime) -> Result<(), Fail> {
     Ok(())
 }
 
-#[test]
-fn the_less_used_half_of_long_clauses_is_forgotten(rt: HostRuntime) -> Result<(), Fail> {
-    let alloc = rt.alloc();
-    let none = Arena::new(alloc);
-    let mut db = Clauses::new(Joined::new(&none, &none)?, Arena::new(alloc));
-    let mut uses = Uses::new(alloc, 0);
+// Adds three clauses, each with its weight.
+fn add_three(db: &mut Clauses, uses: &mut Uses) -> Result<(), AllocError> {
     for clause in [&[0, 2, 4], &[1, 2, 4], &[0, 3, 5]] {
         db.add(clause)?;
         uses.add()?;
     }
+    Ok(())
+}
+
+// Which of three clauses are kept where the first and the third were used.
+fn kept_of_three(alloc: Global, db: &mut Clauses) -> Result<[bool; 3], AllocError> {
+    let mut uses = Uses::new(alloc, 0);
+    add_three(db, &mut uses)?;
     uses.raise(0);
     uses.raise(2);
-    uses.choose(&db)?;
-    assert!(rt; uses.keeps(&db, 0) && !uses.keeps(&db, 1) && uses.keeps(&db, 2));
+    uses.choose(db)?;
+    Ok([uses.keeps(db, 0), uses.keeps(db, 1), uses.keeps(db, 2)])
+}
+
+#[test]
+fn the_less_used_half_of_long_clauses_is_forgotten(rt: HostRuntime) -> Result<(), Fail> {
+    let none = Arena::new(rt.alloc());
+    let mut db = Clauses::new(Joined::new(&none, &none)?, Arena::new(rt.alloc()));
+    assert!(rt; kept_of_three(rt.alloc(), &mut db)? == [true, false, true]);
     Ok(())
 }

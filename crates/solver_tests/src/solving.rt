@@ -1,99 +1,101 @@
-ghost use Rattle.std.specs.Prelude.{◌≤◌};
+ghost use Rattle.std.specs.Prelude.{◌≡◌};
 
+use crate::formulas::is_answered;
 use cnf_store::Cnf;
-use sat_core::{Answer, Ready, Workspace, solve, solve_with};
+use dimacs_text::read_dimacs;
+use sat_core::{Answer, Ready, Workspace, solve_with};
 use std::alloc::{AllocError, Global};
 use std::test::Fail;
 
-// Whether some assignment satisfies.
-fn is_sat(alloc: Global, cnf: &Cnf) -> Result<bool, AllocError> {
-    match solve(alloc, cnf)? {
-        Answer::Sat(_) => Ok(true),
-        Answer::Unsat(_) => Ok(false),
+// Whether an answer is that some assignment satisfies, or that none does.
+fn is_told(answer: Result<Answer, AllocError>, satisfiable: bool) -> bool {
+    match answer {
+        Ok(Answer::Sat(_)) => satisfiable,
+        Ok(Answer::Unsat(_)) => !satisfiable,
+        Err(_) => false,
     }
 }
 
-// Whether some assignment satisfies two formulas together.
-fn are_sat(alloc: Global, shared: &Cnf, own: &Cnf) -> Result<bool, AllocError>
-    requires { shared.now.vars ≤ own.now.vars }
-{
-    match solve_with(alloc, shared, own)? {
-        Answer::Sat(_) => Ok(true),
-        Answer::Unsat(_) => Ok(false),
+// Whether this is the answer to two formulas together.
+fn are_answered(alloc: Global, shared: &[u8], own: &[u8], satisfiable: bool) -> bool {
+    match (read_dimacs(alloc, shared), read_dimacs(alloc, own)) {
+        (Ok(shared), Ok(own)) => {
+            shared.vars() <= own.vars() && is_told(solve_with(alloc, &shared, &own), satisfiable)
+        }
+        _ => false,
     }
-}
-
-// Whether some assignment satisfies a formula that is ready and another, in a workspace.
-fn is_sat_in(
-    alloc: Global,
-    work: &mut Workspace,
-    ready: &Ready,
-    own: &Cnf,
-) -> Result<bool, AllocError>
-    requires { ready.now.vars ≤ own.now.vars }
-{
-    match ready.solve_in(alloc, work, own)? {
-        Answer::Sat(_) => Ok(true),
-        Answer::Unsat(_) => Ok(false),
-    }
-}
-
-#[test]
-fn a_clause_of_two_is_satisfied_and_opposite_units_are_not(rt: HostRuntime) -> Result<(), Fail> {
-    let mut units = Cnf::new(rt.alloc(), 1)?;
-    assert!(rt; is_sat(rt.alloc(), &units)?);
-    units.add(&[1])?;
-    units.add(&[-1])?;
-    assert!(rt; !is_sat(rt.alloc(), &units)?);
-    let mut pair = Cnf::new(rt.alloc(), 2)?;
-    pair.add(&[1, 2])?;
-    assert!(rt; is_sat(rt.alloc(), &pair)?);
-    pair.add(&[])?;
-    assert!(rt; !is_sat(rt.alloc(), &pair)?);
-    Ok(())
 }
 
 #[test]
 fn two_formulas_are_satisfied_together_or_apart_alone(rt: HostRuntime) -> Result<(), Fail> {
-    let mut shared = Cnf::new(rt.alloc(), 1)?;
-    shared.add(&[1])?;
-    let mut own = Cnf::new(rt.alloc(), 2)?;
-    own.add(&[-1, 2])?;
-    assert!(rt; are_sat(rt.alloc(), &shared, &own)?);
-    own.add(&[-2])?;
-    assert!(rt; is_sat(rt.alloc(), &shared)? && is_sat(rt.alloc(), &own)?);
-    assert!(rt; !are_sat(rt.alloc(), &shared, &own)?);
+    let shared = b"p cnf 1 1\n1 0\n".as_slice();
+    let looser = b"p cnf 2 1\n-1 2 0\n".as_slice();
+    let own = b"p cnf 2 2\n-1 2 0\n-2 0\n".as_slice();
+    assert!(rt; are_answered(rt.alloc(), shared, looser, true));
+    assert!(rt; is_answered(rt.alloc(), shared, true) && is_answered(rt.alloc(), own, true));
+    assert!(rt; are_answered(rt.alloc(), shared, own, false));
     Ok(())
+}
+
+// Whether this is the answer to a formula that is ready and another, in a workspace.
+fn is_answered_in(
+    alloc: Global,
+    work: &mut Workspace,
+    over: (&Cnf, &Ready),
+    own: &[u8],
+    satisfiable: bool,
+) -> bool
+    requires { over.1.now ≡ over.0.now }
+{
+    let (shared, ready) = over;
+    match read_dimacs(alloc, own) {
+        Ok(own) => {
+            shared.vars() <= own.vars() && is_told(ready.solve_in(alloc, work, &own), satisfiable)
+        }
+        Err(_) => false,
+    }
+}
+
+// Whether questions over one formula, in turn, have these answers in a workspace.
+fn are_answered_in(
+    alloc: Global,
+    work: &mut Workspace,
+    shared: &[u8],
+    questions: &[(&'static [u8], bool)],
+) -> bool {
+    let Ok(shared) = read_dimacs(alloc, shared) else {
+        return false;
+    };
+    let Ok(ready) = Ready::new(alloc, &shared) else {
+        return false;
+    };
+    for (own, satisfiable) in questions {
+        if !is_answered_in(alloc, work, (&shared, &ready), own, *satisfiable) {
+            return false;
+        }
+    }
+    true
 }
 
 #[test]
 fn questions_in_one_workspace_are_answered_each_for_itself(rt: HostRuntime) -> Result<(), Fail> {
     let alloc = rt.alloc();
     let mut work = Workspace::new();
-    let mut chain = Cnf::new(alloc, 3)?;
-    chain.add(&[-1, 2])?;
-    chain.add(&[-2, 3])?;
-    let chain = Ready::new(alloc, &chain)?;
-    let mut first = Cnf::new(alloc, 3)?;
-    first.add(&[1])?;
-    assert!(rt; is_sat_in(alloc, &mut work, &chain, &first)?);
-    first.add(&[-3])?;
-    assert!(rt; !is_sat_in(alloc, &mut work, &chain, &first)?);
-    let mut wider = Cnf::new(alloc, 4)?;
-    wider.add(&[1, 4])?;
-    wider.add(&[-3])?;
-    assert!(rt; is_sat_in(alloc, &mut work, &chain, &wider)?);
-    wider.add(&[-4])?;
-    assert!(rt; !is_sat_in(alloc, &mut work, &chain, &wider)?);
-    let mut unlike = Cnf::new(alloc, 2)?;
-    unlike.add(&[1, 2])?;
-    unlike.add(&[-1, -2])?;
-    let unlike = Ready::new(alloc, &unlike)?;
-    let mut alike = Cnf::new(alloc, 2)?;
-    alike.add(&[1, -2])?;
-    assert!(rt; is_sat_in(alloc, &mut work, &unlike, &alike)?);
-    alike.add(&[-1, 2])?;
-    assert!(rt; !is_sat_in(alloc, &mut work, &unlike, &alike)?);
-    assert!(rt; !is_sat_in(alloc, &mut work, &chain, &first)?);
+    let chain = b"p cnf 3 2\n-1 2 0\n-2 3 0\n".as_slice();
+    let unlike = b"p cnf 2 2\n1 2 0\n-1 -2 0\n".as_slice();
+    let first = [
+        (b"p cnf 3 1\n1 0\n".as_slice(), true),
+        (b"p cnf 3 2\n1 0\n-3 0\n".as_slice(), false),
+        (b"p cnf 4 2\n1 4 0\n-3 0\n".as_slice(), true),
+        (b"p cnf 4 3\n1 4 0\n-3 0\n-4 0\n".as_slice(), false),
+    ];
+    let second = [
+        (b"p cnf 2 1\n1 -2 0\n".as_slice(), true),
+        (b"p cnf 2 2\n1 -2 0\n-1 2 0\n".as_slice(), false),
+    ];
+    let again = [(b"p cnf 3 2\n1 0\n-3 0\n".as_slice(), false)];
+    assert!(rt; are_answered_in(alloc, &mut work, chain, &first));
+    assert!(rt; are_answered_in(alloc, &mut work, unlike, &second));
+    assert!(rt; are_answered_in(alloc, &mut work, chain, &again));
     Ok(())
 }
