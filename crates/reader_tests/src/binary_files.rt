@@ -1,8 +1,8 @@
 use aig_graph::{BuildFault, Netlist};
 use aiger_binary::read_binary;
-use aiger_codec::{NetError, read_header};
-use circ_model::{Lit, Reset};
-use std::alloc::Global;
+use aiger_codec::{NetError, read_header, write_text_net};
+use std::alloc::{AllocError, Global};
+use std::test::Fail;
 
 // The netlist and the place after the body, or the first fault and its place.
 fn read(alloc: Global, bytes: &[u8]) -> Result<(Netlist, u64), (&'static str, u64)> {
@@ -61,31 +61,22 @@ fn the_first_fault_is_answered_with_the_first_byte_of_its_item(rt: HostRuntime) 
         ),
     ];
     for (bytes, wanted) in rows {
-        assert_eq!(rt; outcome(alloc, bytes), wanted);
+        assert!(rt; outcome(alloc, bytes) == wanted);
+    }
+}
+
+// The netlist of a file as text, or nothing where it is refused.
+fn text_of(alloc: Global, bytes: &[u8]) -> Result<Vec<u8>, AllocError> {
+    match read(alloc, bytes) {
+        Ok((net, _)) => write_text_net(alloc, &net),
+        Err(_) => Ok(Vec::new(alloc)),
     }
 }
 
 #[test]
-fn variables_are_inputs_then_latches_then_gates(rt: HostRuntime) {
-    let read = read(rt.alloc(), b"aig 4 1 2 1 1\n8 1\n3 6\n9\n\x03\x02");
-    assert!(rt; read.is_ok());
-    if let Ok((net, _)) = read {
-        assert_eq!(rt; net.inputs(), [1u32].as_slice());
-        let latches = [
-            (2u32, Lit::of(4, false), Reset::One),
-            (3, Lit::of(1, true), Reset::Free),
-        ];
-        assert_eq!(rt; net.latches().len(), 2);
-        for (latch, wanted) in net.latches().iter().zip(latches) {
-            assert_eq!(rt; (latch.var, latch.next, latch.reset), wanted);
-        }
-        assert_eq!(rt; net.outputs(), [Lit::of(4, true)].as_slice());
-        assert_eq!(rt; net.gates().len(), 1);
-        for gate in net.gates() {
-            assert_eq!(rt;
-                (gate.var, gate.left, gate.right),
-                (4, Lit::of(2, true), Lit::of(1, true))
-            );
-        }
-    }
+fn variables_are_inputs_then_latches_then_gates(rt: HostRuntime) -> Result<(), Fail> {
+    let text = text_of(rt.alloc(), b"aig 4 1 2 1 1\n8 1\n3 6\n9\n\x03\x02")?;
+    let wanted = b"aag 4 1 2 1 1\n2\n4 8 1\n6 3 6\n9\n8 5 3\n".as_slice();
+    assert!(rt; text.as_slice() == wanted);
+    Ok(())
 }

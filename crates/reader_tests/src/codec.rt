@@ -1,4 +1,5 @@
 use aiger_codec::*;
+use std::alloc::{AllocError, Global};
 use std::test::Fail;
 
 #[test]
@@ -17,7 +18,7 @@ fn the_first_fault_of_a_header_is_answered(rt: HostRuntime) -> Result<(), Fail> 
         (b"aag 1 1 0 1\n".as_slice(), NetKind::Header),
     ];
     for (bytes, kind) in files {
-        assert_eq!(rt; read_header(bytes), Err(NetFault { kind, at: 0 }));
+        assert!(rt; read_header(bytes) == Err(NetFault { kind, at: 0 }));
     }
     let header = Header {
         binary: false,
@@ -28,8 +29,8 @@ fn the_first_fault_of_a_header_is_answered(rt: HostRuntime) -> Result<(), Fail> 
         a: 1,
         end: 15,
     };
-    assert_eq!(rt; read_header(b"aag 2 01 0 3 1\n"), Ok(header));
-    assert_eq!(rt; NetKind::Justice.name(), "section justice");
+    assert!(rt; read_header(b"aag 2 01 0 3 1\n") == Ok(header));
+    assert!(rt; NetKind::Justice.name() == "section justice");
     Ok(())
 }
 
@@ -45,37 +46,21 @@ fn numbers_are_read_at_their_places(rt: HostRuntime) -> Result<(), Fail> {
         (18, None),
     ];
     for (at, number) in spelled {
-        assert_eq!(rt; read_number(bytes, at), number);
+        assert!(rt; read_number(bytes, at) == number);
     }
     Ok(())
+}
+
+// Whether a number is written by these bytes.
+fn is_written(alloc: Global, n: u32, bytes: &[u8]) -> Result<bool, AllocError> {
+    let mut written = Vec::new(alloc);
+    write_delta(&mut written, n)?;
+    Ok(written.as_slice() == bytes)
 }
 
 #[test]
 fn binary_numbers_are_written_and_read(rt: HostRuntime) -> Result<(), Fail> {
-    let mut bytes = Vec::new(rt.alloc());
-    let spelled = [
-        (0u32, 1u64),
-        (127, 2),
-        (128, 4),
-        (16383, 6),
-        (16384, 9),
-        (4294967295, 14),
-    ];
-    let mut at = 0u64;
-    for (n, end) in spelled {
-        write_delta(&mut bytes, n)?;
-        assert_eq!(rt; read_delta(bytes.as_slice(), at), Delta::Value(n, end));
-        at = end;
-    }
-    assert_eq!(rt; read_delta(&[128, 128], 0), Delta::Cut);
-    assert_eq!(rt; read_delta(&[128, 128, 128, 128, 128, 0], 0), Delta::Wide);
-    assert_eq!(rt; read_delta(&[128, 128, 128, 128, 16], 0), Delta::Wide);
-    Ok(())
-}
-
-#[test]
-fn binary_numbers_have_these_bytes(rt: HostRuntime) -> Result<(), Fail> {
-    let rows = [
+    for (n, bytes) in [
         (0u32, b"\x00".as_slice()),
         (2, b"\x02".as_slice()),
         (127, b"\x7f".as_slice()),
@@ -84,16 +69,28 @@ fn binary_numbers_have_these_bytes(rt: HostRuntime) -> Result<(), Fail> {
         (16383, b"\xff\x7f".as_slice()),
         (16384, b"\x80\x80\x01".as_slice()),
         (4294967295, b"\xff\xff\xff\xff\x0f".as_slice()),
-    ];
-    for (n, wanted) in rows {
-        let mut bytes = Vec::new(rt.alloc());
-        write_delta(&mut bytes, n)?;
-        assert_eq!(rt; bytes.as_slice(), wanted);
+    ] {
+        assert!(rt; is_written(rt.alloc(), n, bytes)?);
+        assert!(rt; read_delta(bytes, 0) == Delta::Value(n, bytes.len() as u64));
     }
-    assert_eq!(rt; read_delta(b"\x80\x00", 0), Delta::Value(0, 2));
-    assert_eq!(rt; read_delta(b"\xff\xff\xff\xff\x1f", 0), Delta::Wide);
-    assert_eq!(rt; read_delta(b"\x80\x80\x80\x80\x80", 0), Delta::Wide);
-    assert_eq!(rt; read_delta(b"", 0), Delta::Cut);
+    Ok(())
+}
+
+#[test]
+fn binary_numbers_are_read_at_their_places(rt: HostRuntime) -> Result<(), Fail> {
+    for (bytes, at, read) in [
+        (b"\x00\x7f\x80\x01".as_slice(), 1, Delta::Value(127, 2)),
+        (b"\x00\x7f\x80\x01".as_slice(), 2, Delta::Value(128, 4)),
+        (b"\x80\x00".as_slice(), 0, Delta::Value(0, 2)),
+        (b"\x80\x80".as_slice(), 0, Delta::Cut),
+        (b"".as_slice(), 0, Delta::Cut),
+        (b"\x80\x80\x80\x80\x80\x00".as_slice(), 0, Delta::Wide),
+        (b"\x80\x80\x80\x80\x10".as_slice(), 0, Delta::Wide),
+        (b"\xff\xff\xff\xff\x1f".as_slice(), 0, Delta::Wide),
+        (b"\x80\x80\x80\x80\x80".as_slice(), 0, Delta::Wide),
+    ] {
+        assert!(rt; read_delta(bytes, at) == read);
+    }
     Ok(())
 }
 
@@ -104,11 +101,11 @@ fn symbols_end_at_the_comment(rt: HostRuntime) -> Result<(), Fail> {
         latches: 0,
         outputs: 2,
     };
-    assert_eq!(rt; read_symbols(&counts, b"i0 x\no1 \ncany", 0), Ok(9));
     let fault = NetFault {
         kind: NetKind::Symbol,
         at: 5,
     };
-    assert_eq!(rt; read_symbols(&counts, b"i0 x\nl0 y\n", 0), Err(fault));
+    assert!(rt; read_symbols(&counts, b"i0 x\no1 \ncany", 0) == Ok(9));
+    assert!(rt; read_symbols(&counts, b"i0 x\nl0 y\n", 0) == Err(fault));
     Ok(())
 }

@@ -3,7 +3,7 @@ ghost use Rattle.std.specs.Prelude.{◌≤◌};
 use aig_graph::{BuildFault, NetBuilder, Netlist};
 use bit_rows::BitRow;
 use circ_model::Lit;
-use std::alloc::Global;
+use std::alloc::{AllocError, Global};
 use std::test::Fail;
 
 enum Call {
@@ -63,59 +63,66 @@ fn chain(alloc: Global) -> Result<Netlist, BuildFault> {
 
 #[test]
 fn each_refusal_comes_where_its_rule_is_the_first_to_fail(rt: HostRuntime) {
-    let alloc = rt.alloc();
-    assert_eq!(rt; outcome(alloc, 1, 0, &[Call::Input(0)]), ("literal", 0));
-    assert_eq!(rt; outcome(alloc, 1, 4, &[]), ("literal", 0));
-    assert_eq!(rt;
-        outcome(alloc, 1, 3, &[Call::Input(1), Call::Latch(1, 4, 3)]),
-        ("literal", 0)
-    );
-    assert_eq!(rt;
-        outcome(alloc, 2, 0, &[Call::Input(1), Call::Input(1)]),
-        ("redefined", 0)
-    );
-    assert_eq!(rt;
-        outcome(alloc, 1, 0, &[Call::Input(1), Call::Latch(1, 0, 3)]),
-        ("redefined", 0)
-    );
-    assert_eq!(rt; outcome(alloc, 1, 0, &[Call::Latch(1, 2, 3)]), ("reset", 0));
-    assert_eq!(rt;
-        outcome(alloc, 3, 4, &[Call::Latch(1, 7, 2)]),
-        ("undefined", 2)
-    );
-    assert_eq!(rt;
-        outcome(alloc, 2, 2, &[Call::Gate(1, 4, 4), Call::Gate(2, 2, 2)]),
-        ("cyclic", 0)
-    );
-    assert_eq!(rt;
-        outcome(
-            alloc,
+    for (max_var, output, calls, wanted) in [
+        (1, 0, [Call::Input(0)].as_slice(), ("literal", 0)),
+        (1, 4, [].as_slice(), ("literal", 0)),
+        (
+            1,
+            3,
+            [Call::Input(1), Call::Latch(1, 4, 3)].as_slice(),
+            ("literal", 0),
+        ),
+        (
+            2,
+            0,
+            [Call::Input(1), Call::Input(1)].as_slice(),
+            ("redefined", 0),
+        ),
+        (
+            1,
+            0,
+            [Call::Input(1), Call::Latch(1, 0, 3)].as_slice(),
+            ("redefined", 0),
+        ),
+        (1, 0, [Call::Latch(1, 2, 3)].as_slice(), ("reset", 0)),
+        (3, 4, [Call::Latch(1, 7, 2)].as_slice(), ("undefined", 2)),
+        (
+            2,
+            2,
+            [Call::Gate(1, 4, 4), Call::Gate(2, 2, 2)].as_slice(),
+            ("cyclic", 0),
+        ),
+        (
             3,
             2,
-            &[
+            [
                 Call::Gate(1, 4, 6),
                 Call::Gate(3, 4, 4),
-                Call::Latch(2, 2, 1)
+                Call::Latch(2, 2, 1),
             ]
+            .as_slice(),
+            ("netlist", 2),
         ),
-        ("netlist", 2)
-    );
+    ] {
+        assert!(rt; outcome(rt.alloc(), max_var, output, calls) == wanted);
+    }
+}
+
+// Whether the net of the chain has its gates, and its top one is one where the input is.
+fn is_chain(alloc: Global, net: &Netlist) -> Result<bool, AllocError> {
+    let mut row = BitRow::with_len(alloc, 100002)?;
+    if row.len() != net.max_var() + 1 || net.gates().len() != 100000 {
+        return Ok(false);
+    }
+    row.set(1, true);
+    net.eval(&mut row);
+    Ok(row.get(100001))
 }
 
 #[test]
 fn a_long_chain_of_gates_has_its_levels_and_values(rt: HostRuntime) -> Result<(), Fail> {
-    let mut row = BitRow::with_len(rt.alloc(), 100002)?;
     match chain(rt.alloc()) {
-        Ok(net) => {
-            assert_eq!(rt; net.gates().len(), 100000);
-            row.set(1, true);
-            if row.len() == net.max_var() + 1 {
-                net.eval(&mut row);
-                assert!(rt; row.len() > 100001 && row.get(100001));
-            } else {
-                assert!(rt; false);
-            }
-        }
+        Ok(net) => assert!(rt; is_chain(rt.alloc(), &net)?),
         Err(_) => assert!(rt; false),
     }
     Ok(())
