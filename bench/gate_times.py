@@ -6,17 +6,21 @@ processor, seconds that passed, kind, crate, number of the process.
     bench/gate_times.py LOG [SECONDS] &
     rt ci
     bench/gate_times.py --table LOG
+    bench/gate_times.py --edits LOG
 
-The kinds: "proof" of a crate from nothing, "tests" with its tests, "edit" for each must-fail edit and for what these
-begin with and end with, "build" of a program or of its tests by a compiler, "other" for checks by hand. The table adds
-them up. A process that lives for less than the half second between two looks is missed."""
+The kinds: "proof" of a crate from nothing, "tests" with its tests, "seed" for the second proof with which a crate's
+must-fail edits begin and for the look with which they end, "edit" for each of them (CRATE/NUMBER, in the order of their
+names), "build" of a program or of its tests by a compiler, "other" for checks by hand. The table adds them up; with
+--edits the dearest edits are named, at the top of the repository. A process that lives for less than the half second
+between two looks is missed."""
+import glob
 import os
 import re
 import sys
 import time
 
 TICK = os.sysconf("SC_CLK_TCK")
-KINDS = ("proof", "tests", "edit", "build", "other")
+KINDS = ("proof", "tests", "seed", "edit", "build", "other")
 
 
 def words_of(pid):
@@ -30,9 +34,17 @@ def seconds_of(pid):
     return (int(fields[11]) + int(fields[12])) / TICK
 
 
+def name_and_kind(words, folder):
+    name = words[words.index("--crate-name") + 1]
+    if "rt-edit" not in folder:
+        return name, kind_of(words, folder)
+    over = words[words.index("--incremental") + 1] if "--incremental" in words else ""
+    if over.endswith("/seed"):
+        return name, "seed"
+    return (f"{name}/{os.path.basename(over)}" if over else name), "edit"
+
+
 def kind_of(words, folder):
-    if "rt-edit" in folder:
-        return "edit"
     if "rt-copy" not in folder and "--incremental" in words:
         return "other"
     if "--test" in words:
@@ -48,8 +60,8 @@ def look(seen, ended):
             if os.path.basename(words[0]) != "rattle" or "--crate-name" not in words:
                 continue
             if pid not in seen:
-                name = words[words.index("--crate-name") + 1]
-                seen[pid] = [0.0, now, kind_of(words, os.readlink(f"/proc/{pid}/cwd")), name]
+                name, kind = name_and_kind(words, os.readlink(f"/proc/{pid}/cwd"))
+                seen[pid] = [0.0, now, kind, name]
             seen[pid][0] = seconds_of(pid)
             there.add(pid)
         except (OSError, ValueError, IndexError):
@@ -70,24 +82,42 @@ def watch(log, most):
             pass
 
 
-def table(log):
-    found = {}
+def lines_of(log):
     with open(log, encoding="utf-8") as lines:
         for line in lines:
             seconds, _, kind, name, _ = re.split(r"\s+", line.strip())
-            row = found.setdefault(name, dict.fromkeys(KINDS, 0.0) | {"edits": 0})
-            row[kind] += float(seconds)
-            row["edits"] += kind == "edit"
-    print("| Crate | proof | with tests | edits | runs of edits | builds | all |\n|---|---|---|---|---|---|---|")
-    whole = lambda row: sum(row[it] for it in KINDS[:4])
-    for name, row in sorted(found.items(), key=lambda it: -whole(it[1])):
-        print(f"| {name} | {row['proof']:.0f} | {row['tests']:.0f} | {row['edit']:.0f} | {row['edits']} | {row['build']:.0f} | {whole(row):.0f} |")
-    print(f"| all | {' | '.join(f'{sum(it[kind] for it in found.values()):.0f}' for kind in KINDS[:3])} | "
-          f"{sum(it['edits'] for it in found.values())} | {sum(it['build'] for it in found.values()):.0f} | {sum(map(whole, found.values())):.0f} |")
+            yield float(seconds), kind, name
+
+
+def table(log):
+    found = {}
+    for seconds, kind, name in lines_of(log):
+        row = found.setdefault(name.partition("/")[0], dict.fromkeys(KINDS, 0.0) | {"edits": 0})
+        row[kind] += seconds
+        row["edits"] += kind == "edit"
+    found = dict(sorted(found.items(), key=lambda it: -whole(it[1])))
+    found["all"] = {it: sum(row[it] for row in found.values()) for it in (*KINDS, "edits")}
+    print("| crate | proof | with tests | second proof | edits | how many | builds | all |\n|---|---|---|---|---|---|---|---|")
+    for name, row in found.items():
+        print(f"| `{name}` | {row['proof']:.0f} | {row['tests']:.0f} | {row['seed']:.0f} | {row['edit']:.0f} | {row['edits']:.0f} | "
+              f"{row['build']:.0f} | {whole(row):.0f} |")
+
+
+def whole(row):
+    return sum(row[it] for it in KINDS if it != "other")
+
+
+def edits(log):
+    tried = [(seconds, *name.split("/")) for seconds, kind, name in lines_of(log) if kind == "edit" and "/" in name]
+    for seconds, crate, number in sorted(tried, reverse=True)[:40]:
+        files = sorted(glob.glob(f"crates/{crate}/must-fail/*.edit"))
+        print(f"{seconds:6.1f} {crate} {os.path.basename(files[int(number)]) if int(number) < len(files) else number}")
 
 
 if __name__ == "__main__":
     if sys.argv[1:2] == ["--table"]:
         table(sys.argv[2])
+    elif sys.argv[1:2] == ["--edits"]:
+        edits(sys.argv[2])
     else:
         watch(sys.argv[1], float(sys.argv[2]) if len(sys.argv) > 2 else float("inf"))
