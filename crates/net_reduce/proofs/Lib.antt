@@ -1,0 +1,9 @@
+pub mod Staying
+pub mod Bare
+pub mod Replacing
+pub mod FreeLatches
+pub mod Values
+pub mod Agreeing
+pub mod Tables
+pub mod Numbering
+pub mod Reductions
