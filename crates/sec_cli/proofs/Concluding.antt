@@ -4,14 +4,17 @@ use Rattle.std.proofs.lemmas.Bool.{ne_eqb}
 use Rattle.sec_base.specs.Faults.{appended}
 use Rattle.sec_base.proofs.Pieces.{appended_none}
 use Rattle.refine_board.specs.Running.{Written}
-use Rattle.sec_cli.specs.declared.ending.Unpaired.{Unpaired}
-use Rattle.sec_cli.specs.declared.ending.Unpaired.TheVariants as unpaired
+use Rattle.pair_files.specs.declared.fault.Unpaired.{Unpaired}
+use Rattle.pair_files.specs.declared.fault.Unpaired.TheVariants as unpaired
 use Rattle.sec_cli.specs.declared.ending.Refusal.{Refusal}
 use Rattle.sec_cli.specs.declared.ending.Refusal.TheVariants as refusals
 use Rattle.command_line.specs.Asked.{Asked, ForCheck, ForReplay, ForVerify, ForDemo}
-use Rattle.sec_cli.specs.Endings.{Ending, IsLoadFailed, IsLoadEnding, refines, journal_of, failed_side, failed_names, left_name, right_name, third_name}
-use Rattle.sec_cli.specs.Texts.{memory_text}
-use Rattle.sec_cli.specs.Reports.{World, IsReport, IsStored, IsToldIn, unpaired_status, unpaired_text, refusal_status, refusal_text, store_name}
+use Rattle.pair_files.specs.Pairs.{IsLoadFailed}
+use Rattle.pair_files.specs.Loads.{failed_side}
+use Rattle.sec_cli.specs.Endings.{Ending, IsLoadEnding, refines, journal_of, failed_names, left_name, right_name, third_name}
+use Rattle.run_texts.specs.Texts.{memory_text}
+use Rattle.run_texts.specs.Told.{unpaired_status, unpaired_text}
+use Rattle.sec_cli.specs.Reports.{World, IsReport, IsStored, IsToldIn, refusal_status, refusal_text, store_name}
 use Rattle.sec_cli.specs.Runs.{Ended, IsAnswered, IsJournalOfWords, IsRefused, IsUnread, IsUnwritten}
 
 -- refusals have the statuses 4, 5 and 7

@@ -1,9 +1,6 @@
-pub mod CutShort
 pub mod Concluding
 pub mod OneAnswer
 pub mod SameLines
 pub mod Tallied
-pub mod LeftOut
 pub mod Verdicts
-pub mod Pairing
 pub mod Unfailing

@@ -14,9 +14,12 @@ use Rattle.refine_board.specs.declared.journal.Entry.{Entry}
 use Rattle.refine_board.specs.Running.{Written}
 use Rattle.command_line.specs.Asked.{Asked, CheckAsked, ForCheck, ForReplay, ForVerify, ForDemo}
 use Rattle.sec_cli.specs.declared.ending.Answer.{Answer}
-use Rattle.sec_cli.specs.Texts.{different_line}
-use Rattle.sec_cli.specs.Answers.{IsCheckAnswer, IsRefinedText, IsVerdictText, stats_lines, status_of_verdict}
-use Rattle.sec_cli.specs.Endings.{ArePair, IsAccepted, IsCheckEnding}
+use Rattle.run_texts.specs.Lines.{different_line}
+use Rattle.run_texts.specs.Verdicts.{status_of_verdict}
+use Rattle.sec_cli.specs.Answers.{IsCheckAnswer, IsRefinedText, IsVerdictText, stats_lines}
+use Rattle.pair_files.specs.Files.{IsAccepted}
+use Rattle.pair_files.specs.Pairs.{ArePair}
+use Rattle.sec_cli.specs.Endings.{IsCheckEnding}
 use Rattle.sec_cli.specs.Reports.{World, IsStored, store_name}
 use Rattle.sec_cli.specs.Runs.{IsAnswered}
 use Rattle.sec_cli.specs.OneAnswer.{AreSame, OneAnswer, IsOf, IsOneAnswer}

@@ -9,8 +9,8 @@ use Rattle.induction_base.specs.declared.difference.Diff.{Diff}
 use Rattle.trace_witness.specs.Texts.{trace_text}
 use Rattle.refine_board.specs.Running.{Written}
 use Rattle.sec_cli.specs.Answers.{IsCertOf, IsRefinedText, IsShownAs, IsVerdictAnswer}
-use Rattle.sec_cli.specs.Outputs.{AreLeftOut}
-use Rattle.sec_cli.specs.Texts.{equivalent_line, undecided_line, different_line}
+use Rattle.pair_pool.specs.Unpaired.{AreLeftOut}
+use Rattle.run_texts.specs.Lines.{equivalent_line, undecided_line, different_line}
 use Rattle.command_line.specs.Asked.{CheckAsked}
 
 pub equivalent_answer : (pair : Pair) (c : CheckAsked) (classes : Classes) (journal : Written) (line text trace : List ℕ) → IsSoundPair pair → ArePartition (places_of pair) classes → AreOfGreatest pair c.k classes

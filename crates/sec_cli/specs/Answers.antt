@@ -17,16 +17,13 @@ use Rattle.refine_board.specs.declared.journal.Entry.{Entry}
 use Rattle.refine_board.specs.Running.{Written}
 use Rattle.split_workers.specs.Refined.{IsRefined}
 use Rattle.sec_cli.specs.Stats.{stats_of}
-use Rattle.sec_cli.specs.Texts.{equivalent_line, undecided_line, different_line, differs_line, agrees_line, stats_line, verified_line, demo_line}
+use Rattle.run_texts.specs.Lines.{equivalent_line, undecided_line, different_line, differs_line, agrees_line, demo_line}
+use Rattle.run_texts.specs.Verdicts.{status_of_verdict}
+use Rattle.sec_cli.specs.Texts.{stats_line, verified_line}
 use Rattle.sec_cli.specs.declared.ending.Answer.{Answer}
 use Rattle.command_line.specs.Asked.{CheckAsked}
 use Rattle.command_line.specs.declared.command.Demo.{Demo}
 use Rattle.demo_pair.specs.Demo.{IsDemo}
-
-abbrev pub status_of_verdict : Verdict → ℕ
-status_of_verdict (Equivalent classes) = 0
-status_of_verdict (Different frame output) = 1
-status_of_verdict (Undecided classes unpaired) = 2
 
 -- the lines of the greatest correspondence's classes, where they are asked for
 abbrev pub AreClassLines : Pair → CheckAsked → List ℕ → Type 0

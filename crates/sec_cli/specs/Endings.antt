@@ -1,11 +1,6 @@
 -- How a run ends, before anything of it is written.
-use Rattle.std.specs.Prelude.{◌≡◌, ◌≢◌, ℕ, ◌<◌, ◌≤◌, ◌⊎◌, List, [], ◌∷◌, length, Bool, IsTrue, false, Option, None, IsSomeAnd, Result, Ok, Err}
-use Rattle.circ_model.specs.Netlist.{Netlist}
-use Rattle.circ_model.specs.Meaning.{Pair, IsSoundPair, free_latches}
-use Rattle.aiger_codec.specs.Lines.{fault}
-use Rattle.aiger_codec.specs.declared.fault.NetFault.{NetFault}
-use Rattle.aiger_codec.specs.declared.fault.NetKind.TheVariants as kinds
-use Rattle.aiger_file.specs.Files.{IsNetlistFile, IsFirstFault}
+use Rattle.std.specs.Prelude.{◌≡◌, ℕ, ◌<◌, ◌≤◌, List, [], ◌∷◌, length, Bool, false, Option, None, IsSomeAnd, Result, Ok, Err}
+use Rattle.circ_model.specs.Meaning.{Pair}
 use Rattle.corr_certificate.specs.Certificate.{IsChecked}
 use Rattle.corr_certificate.specs.declared.fault.Checked.TheVariants.{No}
 use Rattle.trace_witness.specs.Lines.{lines_of}
@@ -17,74 +12,16 @@ use Rattle.command_line.specs.declared.command.Demo.{Demo}
 use Rattle.sec_cli.specs.declared.ending.Answer.{Answer}
 use Rattle.sec_cli.specs.declared.ending.Refusal.{Refusal}
 use Rattle.sec_cli.specs.declared.ending.Refusal.TheVariants as refusals
-use Rattle.sec_cli.specs.declared.ending.Side.{Side}
-use Rattle.sec_cli.specs.declared.ending.Side.TheVariants.{Left, Right}
-use Rattle.sec_cli.specs.declared.ending.Unpaired.{Unpaired}
-use Rattle.sec_cli.specs.declared.ending.Unpaired.TheVariants as unpaired
-use Rattle.sec_cli.specs.declared.ending.Unread.{Unread}
-use Rattle.sec_cli.specs.declared.ending.Unread.TheVariants as unread
+use Rattle.pair_files.specs.Pairs.{ArePair, IsNoPair, IsLoadFailed}
+use Rattle.pair_files.specs.Loads.{failed_side}
 
 -- how a run ends, before anything of it is written: an answer, or a refusal
 abbrev pub Ending : Type 0
 Ending = Result Answer Refusal
 
--- no netlist's file is longer, and no trace's or certificate's
-abbrev pub longest_netlist : ℕ
-longest_netlist = 67108864
-
+-- no trace's or certificate's file is longer
 abbrev pub longest_third : ℕ
 longest_third = 1099511627776
-
--- a file that is there, within the limit, and accepted as this netlist
-abbrev pub IsAccepted : Option (List ℕ) → Netlist → Type 0
-IsAccepted file net = IsSomeAnd file (λ bytes. (length bytes ≤ longest_netlist) × IsNetlistFile bytes net)
-
--- a file that is there, and is too long or has this first fault
-abbrev pub IsRefusedFor : List ℕ → NetFault → Type 0
-IsRefusedFor bytes f = ((longest_netlist < length bytes) × (f ≡ fault kinds.Limit longest_netlist)) ⊎ ((length bytes ≤ longest_netlist) × IsFirstFault bytes f)
-
-abbrev pub IsRefused : Option (List ℕ) → NetFault → Type 0
-IsRefused file f = IsSomeAnd file (λ bytes. IsRefusedFor bytes f)
-
--- what a netlist's file was found to be, where it was told
-abbrev pub IsRead : Option (List ℕ) → Result Netlist Unread → Type 0
-IsRead file (Ok net) = IsAccepted file net
-IsRead file (Err (unread.Refused f)) = IsRefused file f
-IsRead file (Err unread.Failed) = Unit {0}
-IsRead file (Err unread.Memory) = Unit {0}
-
--- both files are accepted, as this pair, whose free latches are tied or not
-pub record AreAccepted (tied : Bool) (left right : Option (List ℕ)) (pair : Pair) : Type 0 where
-  pub is_left : IsAccepted left pair.left
-  pub is_right : IsAccepted right pair.right
-  pub ties : pair.tied ≡ tied
-
--- and it has as many inputs on both sides, and as many outputs, and where they are tied as many free latches
-pub record ArePair (tied : Bool) (left right : Option (List ℕ)) (pair : Pair) : Type 0 where
-  pub accepted : AreAccepted tied left right pair
-  pub sound : IsSoundPair pair
-
--- the counts of two netlists differ
-abbrev pub AreApart : Pair → Unpaired → Type 0
-AreApart pair (unpaired.InputsDiffer a b) = (a ≡ length pair.left.inputs) × (b ≡ length pair.right.inputs) × (a ≢ b)
-AreApart pair (unpaired.OutputsDiffer a b) = (length pair.left.inputs ≡ length pair.right.inputs) × (a ≡ length pair.left.outputs) × (b ≡ length pair.right.outputs) × (a ≢ b)
-AreApart pair (unpaired.FreeDiffer a b) =
-    IsTrue pair.tied × (length pair.left.inputs ≡ length pair.right.inputs) × (length pair.left.outputs ≡ length pair.right.outputs)
-    × (a ≡ length (free_latches pair.left)) × (b ≡ length (free_latches pair.right)) × (a ≢ b)
-AreApart pair unpaired.Memory = Unit {0}
-AreApart pair (unpaired.LoadFailed side) = ⊥
-AreApart pair (unpaired.Refused side f) = ⊥
-
--- why there is no pair of these two files, tied or not
-abbrev pub IsNoPair : Bool → Option (List ℕ) → Option (List ℕ) → Unpaired → Type 0
-IsNoPair tied left right unpaired.Memory = Unit {0}
-IsNoPair tied left right (unpaired.LoadFailed Left) = Unit {0}
-IsNoPair tied left right (unpaired.LoadFailed Right) = (net : Netlist) × IsAccepted left net
-IsNoPair tied left right (unpaired.Refused Left f) = IsRefused left f
-IsNoPair tied left right (unpaired.Refused Right f) = ((net : Netlist) × IsAccepted left net) × IsRefused right f
-IsNoPair tied left right (unpaired.InputsDiffer a b) = (pair : Pair) × AreAccepted tied left right pair × AreApart pair (unpaired.InputsDiffer a b)
-IsNoPair tied left right (unpaired.OutputsDiffer a b) = (pair : Pair) × AreAccepted tied left right pair × AreApart pair (unpaired.OutputsDiffer a b)
-IsNoPair tied left right (unpaired.FreeDiffer a b) = (pair : Pair) × AreAccepted tied left right pair × AreApart pair (unpaired.FreeDiffer a b)
 
 -- the names of a command's files
 abbrev pub left_name : Asked → List ℕ
@@ -155,40 +92,6 @@ refines (ForDemo d) status = is_refined status
 abbrev pub journal_of : Ending → Option Written
 journal_of (Ok a) = a.journal
 journal_of (Err r) = None
-
-abbrev pub unread_as : Side → Unread → Unpaired
-unread_as side unread.Failed = unpaired.LoadFailed side
-unread_as side (unread.Refused f) = unpaired.Refused side f
-unread_as side unread.Memory = unpaired.Memory
-
--- a netlist's file couldn't be loaded
-abbrev pub IsLoadFailed : Unpaired → Type 0
-IsLoadFailed (unpaired.LoadFailed side) = Unit {0}
-IsLoadFailed unpaired.Memory = ⊥
-IsLoadFailed (unpaired.Refused side f) = ⊥
-IsLoadFailed (unpaired.InputsDiffer a b) = ⊥
-IsLoadFailed (unpaired.OutputsDiffer a b) = ⊥
-IsLoadFailed (unpaired.FreeDiffer a b) = ⊥
-
--- the names whose loads failed
-abbrev pub failed_load : Result Netlist Unread → List ℕ → List (List ℕ)
-failed_load (Err unread.Failed) name = name ∷ []
-failed_load (Err (unread.Refused f)) name = []
-failed_load (Err unread.Memory) name = []
-failed_load (Ok net) name = []
-
-abbrev pub failed_side : List ℕ → List ℕ → Unpaired → List (List ℕ)
-failed_side left right (unpaired.LoadFailed Left) = left ∷ []
-failed_side left right (unpaired.LoadFailed Right) = right ∷ []
-failed_side left right unpaired.Memory = []
-failed_side left right (unpaired.Refused side f) = []
-failed_side left right (unpaired.InputsDiffer a b) = []
-failed_side left right (unpaired.OutputsDiffer a b) = []
-failed_side left right (unpaired.FreeDiffer a b) = []
-
-abbrev pub failed_loads : List ℕ → List ℕ → Result Pair Unpaired → List (List ℕ)
-failed_loads left right (Ok pair) = []
-failed_loads left right (Err u) = failed_side left right u
 
 abbrev pub failed_names : List ℕ → List ℕ → List ℕ → Ending → List (List ℕ)
 failed_names left right trace (Err (refusals.Unpaired u)) = failed_side left right u

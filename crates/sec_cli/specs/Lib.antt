@@ -1,6 +1,5 @@
 pub mod Stats
 pub mod Texts
-pub mod Outputs
 pub mod Answers
 pub mod Endings
 pub mod Reports

@@ -1,39 +1,16 @@
 -- What a run writes, and the status that it ends with.
-use Rattle.std.specs.Prelude.{◌≡◌, ◌≢◌, ℕ, ◌==◌, ◌⊎◌, if◌then◌else◌, Bool, IsTrue, List, Option, None, Some, Ok, Err, codes}
+use Rattle.std.specs.Prelude.{◌≡◌, ◌≢◌, ℕ, ◌==◌, ◌⊎◌, if◌then◌else◌, Bool, IsTrue, List, Option, None, Some, Ok, Err}
 use Rattle.sec_base.specs.Faults.{Rose, appended, IsCutShort}
 use Rattle.aiger_codec.specs.Lines.{fault}
 use Rattle.aiger_codec.specs.declared.fault.NetKind.TheVariants as kinds
 use Rattle.sec_cli.specs.declared.ending.Answer.{Answer}
 use Rattle.sec_cli.specs.declared.ending.Refusal.{Refusal}
 use Rattle.sec_cli.specs.declared.ending.Refusal.TheVariants as refusals
-use Rattle.sec_cli.specs.declared.ending.Side.{Side}
-use Rattle.sec_cli.specs.declared.ending.Side.TheVariants.{Left, Right}
-use Rattle.sec_cli.specs.declared.ending.Unpaired.{Unpaired}
-use Rattle.sec_cli.specs.declared.ending.Unpaired.TheVariants as unpaired
 use Rattle.command_line.specs.Asked.{Asked, ForCheck, ForReplay, ForVerify, ForDemo}
 use Rattle.sec_cli.specs.Endings.{Ending, longest_third, left_name, right_name, third_name}
-use Rattle.sec_cli.specs.Texts.{fault_text, trace_fault_text, cert_fault_text, differ_text, read_failed_text, store_failed_text, write_failed_text, memory_text}
-
-abbrev pub name_of_side : List ℕ → List ℕ → Side → List ℕ
-name_of_side left right Left = left
-name_of_side left right Right = right
-
--- the status where there is no pair, and what is told
-abbrev pub unpaired_status : Unpaired → ℕ
-unpaired_status unpaired.Memory = 7
-unpaired_status (unpaired.LoadFailed side) = 5
-unpaired_status (unpaired.Refused side f) = 4
-unpaired_status (unpaired.InputsDiffer a b) = 4
-unpaired_status (unpaired.OutputsDiffer a b) = 4
-unpaired_status (unpaired.FreeDiffer a b) = 4
-
-abbrev pub unpaired_text : List ℕ → List ℕ → Unpaired → List ℕ
-unpaired_text left right unpaired.Memory = memory_text
-unpaired_text left right (unpaired.LoadFailed side) = read_failed_text (name_of_side left right side)
-unpaired_text left right (unpaired.Refused side f) = fault_text (name_of_side left right side) f
-unpaired_text left right (unpaired.InputsDiffer a b) = differ_text (codes "inputs") a b
-unpaired_text left right (unpaired.OutputsDiffer a b) = differ_text (codes "outputs") a b
-unpaired_text left right (unpaired.FreeDiffer a b) = differ_text (codes "free latches") a b
+use Rattle.run_texts.specs.Texts.{fault_text, read_failed_text, store_failed_text, write_failed_text, memory_text}
+use Rattle.run_texts.specs.Told.{IsTold, unpaired_status, unpaired_text}
+use Rattle.sec_cli.specs.Texts.{trace_fault_text, cert_fault_text}
 
 -- the status of a refusal, and what is told of it
 abbrev pub refusal_status : Refusal → ℕ
@@ -54,10 +31,6 @@ refusal_text left right trace (refusals.CertRefused f) = cert_fault_text trace f
 
 abbrev pub told_of : Asked → Refusal → List ℕ
 told_of c r = refusal_text (left_name c) (right_name c) (third_name c) r
-
--- the sink took the text, or failed and took a part from its front
-abbrev pub IsTold : Option (List ℕ) → ℕ → List ℕ → Option (List ℕ) → ℕ → Type 0
-IsTold before faults text after now = (after ≡ appended before text) ⊎ (Rose faults now × IsCutShort before text after)
 
 -- the name under which the command stores the file of an answer of this status, if any
 abbrev pub store_name : Asked → ℕ → Option (List ℕ)

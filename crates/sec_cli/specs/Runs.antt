@@ -6,7 +6,8 @@ use Rattle.sec_cli.specs.declared.ending.Answer.{Answer}
 use Rattle.sec_cli.specs.declared.ending.Refusal.{Refusal}
 use Rattle.command_line.specs.Asked.{Asked, ForCheck, ForReplay, ForVerify, ForDemo}
 use Rattle.sec_cli.specs.Endings.{Ending, IsCheckEnding, IsReplayEnding, IsVerifyEnding, IsDemoEnding, refines, journal_of, left_name, right_name, third_name, failed_names}
-use Rattle.sec_cli.specs.Reports.{World, IsTold, IsStored, IsUnprinted, IsUnstoredAs, store_name, refusal_status, told_of}
+use Rattle.run_texts.specs.Told.{IsTold}
+use Rattle.sec_cli.specs.Reports.{World, IsStored, IsUnprinted, IsUnstoredAs, store_name, refusal_status, told_of}
 
 -- how the command ended over these files, where the shelf tells them; a demo reads none
 abbrev pub Ended : Bool → (List ℕ → Option (List ℕ)) → Asked → Ending → Type 0

@@ -6,41 +6,26 @@ ghost use Rattle.class_partition.specs.Classes.{ArePartition, AreOfGreatest};
 ghost use Rattle.class_partition.specs.Laws.{PairOutput};
 ghost use Rattle.induction_base.specs.Least.{IsLeastOrNone, IsShown};
 ghost use Rattle.command_line.specs.Asked.{check_asked, IsCheckWithin};
-ghost use Rattle.sec_cli.specs.Outputs.{AreLeftOut};
+ghost use Rattle.pair_pool.specs.Unpaired.{AreLeftOut};
 ghost use Rattle.sec_cli.specs.Answers.{AreClassLines, IsCertOf, IsCheckAnswer, IsJournalOf, IsRefinedText, IsShownAs, is_refined, stats_lines};
 
-use crate::counting::stats_of;
+use crate::counting::{stats_line, stats_of};
 use crate::ending::Answer;
-use crate::lines::{different_line, equivalent_line, push_numbers, stats_line, undecided_head};
 use class_partition::Classes;
 use class_text::push_class_lines;
 use command_line::Check;
 use corr_certificate::write_cert;
 use induction_base::{Diff, least_difference, least_difference_beyond, least_run};
+use pair_pool::left_out;
 use product_machine::Product;
 use refine_board::Journal;
+use run_texts::{different_line, equivalent_line, push_numbers, undecided_head};
 use sec_base::Gate;
 use split_workers::{Refined, refine};
 use std::alloc::{AllocError, Global};
 use std::sync::Wait;
 use std::thread::Threads;
 use trace_witness::write_trace;
-
-// The outputs that the classes don't pair.
-fn left_out(alloc: Global, product: &Product, classes: &Classes) -> Result<Vec<u32>, AllocError>
-    requires sound { IsSoundPair product.now }
-    requires places { length classes.now.least ≡ places_of product.now }
-    ensures { IfOk result (λ u. AreLeftOut product.now classes.now (outputs_of product.now) u.items) }
-{
-    let mut outputs = Vec::new(alloc);
-    for j in 0..product.outputs() {
-        let (left, right) = product.output(j);
-        if !classes.paired(left, right) {
-            outputs.push(j)?;
-        }
-    }
-    Ok(outputs)
-}
 
 // Adds the class lines where they are asked for.
 fn push_classes(
@@ -257,7 +242,7 @@ fn different(alloc: Global, product: &Product, c: &Check, diff: Diff) -> Result<
     ensures journal { IfOk result (λ a. is_some a.journal ≡ is_refined a.status) }
 {
     let diff = run_asked_for(alloc, product, c, diff)?;
-    let line = different_line(alloc, c.k, diff.frame, diff.output)?;
+    let line = different_line(alloc, c.k, diff.frame as u64, diff.output)?;
     let mut text = Vec::from_slice(alloc, line.as_bytes())?;
     let trace = write_trace(alloc, product, diff.output, &diff.run)?;
     text.extend_from_slice(trace.as_slice())?;

@@ -1,8 +1,10 @@
-// The numbers of the entries of a journal, kind by kind.
-ghost use Rattle.std.specs.Prelude.{◌≡◌, ◌-◌, ◌^◌};
+// The numbers of the entries of a journal, kind by kind, and their line.
+ghost use Rattle.std.specs.Prelude.{◌≡◌, ◌-◌, ◌^◌, string_bytes, IfOk};
 ghost use Rattle.sec_cli.specs.Stats.{AreBelow, IsOneMore, stats_of};
+ghost use Rattle.sec_cli.specs.Texts.{stats_head, stats_line};
 
 use refine_board::{Journal, Step};
+use std::alloc::{AllocError, Global};
 
 /// How many entries of a journal are of each of these kinds.
 #[derive(Clone, Copy, Debug, PartialEq, Eq)]
@@ -71,4 +73,31 @@ pub(crate) fn stats_of(journal: &Journal) -> Stats
         stats = with_step(stats, &journal.entry(i).step);
     }
     stats
+}
+
+// The line of a journal's numbers, up to the third.
+fn stats_head(alloc: Global, s: Stats) -> Result<String, AllocError>
+    ensures { IfOk result (λ line. string_bytes line ≡ stats_head s) }
+{
+    let Stats {
+        offers,
+        counted,
+        stale,
+        ..
+    } = s;
+    format!(in alloc; "stats offers={offers} counted={counted} stale={stale}")
+}
+
+/// The line of a journal's numbers.
+pub(crate) fn stats_line(alloc: Global, s: Stats) -> Result<String, AllocError>
+    ensures { IfOk result (λ line. string_bytes line ≡ stats_line s) }
+{
+    let head = stats_head(alloc, s)?;
+    let Stats {
+        splits,
+        already,
+        back,
+        ..
+    } = s;
+    format!(in alloc; "{head} splits={splits} already={already} back={back}\n")
 }

@@ -2,12 +2,13 @@
 ghost use Rattle.std.specs.Prelude.{◌≡◌, ◌≤◌, ◌⊎◌, Option, Some, option_map};
 ghost use Rattle.sec_base.specs.Faults.{Rose, appended, IsCutShort};
 ghost use Rattle.command_line.specs.Asked.{asked_of};
-ghost use Rattle.sec_cli.specs.Reports.{IsDelivery, IsTold, store_name};
-ghost use Rattle.sec_cli.specs.Texts.{write_failed_text};
+ghost use Rattle.run_texts.specs.Texts.{write_failed_text};
+ghost use Rattle.run_texts.specs.Told.{IsTold};
+ghost use Rattle.sec_cli.specs.Reports.{IsDelivery, store_name};
 
 use crate::ending::Answer;
-use crate::telling::{tell, tell_unstored};
 use command_line::Command;
+use run_texts::{tell, tell_unstored};
 use sec_base::{Failed, Shelf, Sink, StoreFault, write_text};
 
 // Prints a text, and answers the status, or 6 where that fails.

@@ -7,10 +7,10 @@ ghost use Rattle.sec_cli.specs.Answers.{IsDemoAnswer, check_of_demo, is_refined}
 
 use crate::checking::check_pair;
 use crate::ending::Answer;
-use crate::lines::demo_line;
 use command_line::{Check, Demo};
 use demo_pair::make_demo;
 use product_machine::Product;
+use run_texts::demo_line;
 use sec_base::Gate;
 use std::alloc::{AllocError, Global};
 use std::sync::Wait;

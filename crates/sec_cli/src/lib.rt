@@ -1,4 +1,4 @@
-//! The program `sec` but for its `main`: the files, the answers, the texts.
+//! The program `sec` but for its `main`: the commands, their answers, and what becomes of them.
 #![tactic(auto)]
 
 mod checking;
@@ -7,12 +7,10 @@ mod counting;
 mod delivering;
 mod demo;
 mod ending;
-mod lines;
-mod loading;
 mod replaying;
 mod telling;
-mod texts;
 mod verifying;
 
 pub use command::{Report, run};
-pub use ending::{Answer, Refusal, Side, Unpaired};
+pub use ending::{Answer, Refusal};
+pub use pair_files::{Side, Unpaired};

@@ -6,8 +6,8 @@ ghost use Rattle.sec_cli.specs.Answers.{IsReplayOf};
 ghost use Rattle.sec_cli.specs.Endings.{IsReplayed, IsReplayedAs, IsOfPair, IsLoadEnding, failed_third};
 
 use crate::ending::{Answer, Refusal};
-use crate::lines::{agrees_line, differs_line};
 use product_machine::{Path, Product, Scratch};
+use run_texts::{agrees_line, differs_line};
 use sec_base::{LoadFault, Shelf};
 use std::alloc::{AllocError, Global};
 use trace_witness::{TraceError, first_difference, read_trace};

@@ -1,6 +1,6 @@
 use Rattle.std.proofs.Common.{◌∙◌, ℕ, ap, ap₂}
 use Rattle.class_partition.specs.Classes.{class_count}
-use Rattle.sec_cli.specs.Texts.{equivalent_line}
+use Rattle.run_texts.specs.Lines.{equivalent_line}
 use Rattle.command_line.specs.Asked.{check_asked}
 use Rattle.sec_cli.proofs.Verdicts.{equivalent_answer}
 use Rattle.sec_cli.proofs.checking.equivalent.Goals as goal

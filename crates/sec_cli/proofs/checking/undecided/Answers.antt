@@ -1,6 +1,6 @@
 use Rattle.std.proofs.Common.{◌∙◌, ◌++◌, ◌∷◌, [], ℕ, List, ap, ap₂}
 use Rattle.class_partition.specs.Classes.{class_count}
-use Rattle.sec_cli.specs.Texts.{undecided_head, with_commas}
+use Rattle.run_texts.specs.Lines.{undecided_head, with_commas}
 use Rattle.command_line.specs.Asked.{check_asked}
 use Rattle.sec_cli.proofs.Verdicts.{undecided_answer}
 use Rattle.sec_cli.proofs.checking.undecided.Goals as goal

@@ -2,7 +2,7 @@ use Rattle.std.proofs.Common.{◌≡◌, ◌≢◌, ◌⊎◌, ℕ, List, Option
 use Rattle.command_line.specs.Asked.{Asked, asked_of}
 use Rattle.command_line.specs.Meant.{meant}
 use Rattle.command_line.specs.Plain.{texts}
-use Rattle.sec_cli.specs.Reports.{IsTold}
+use Rattle.run_texts.specs.Told.{IsTold}
 use Rattle.sec_cli.specs.Runs.{IsJournalOfWords}
 use Rattle.sec_cli.proofs.OneAnswer.{only_answer}
 use Rattle.sec_cli.proofs.Concluding.{answered, quiet, refused, unread, is_load, unwritten, no_journal, told_memory, out_stays, names_stay, files_stay, within, some_and, no_memory_journal}

@@ -1,0 +1,4 @@
+mod Extending
+mod Written
+mod Stopping
+mod Concluding

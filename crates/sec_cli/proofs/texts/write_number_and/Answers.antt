@@ -1,8 +1,0 @@
-use Rattle.sec_cli.proofs.CutShort.{cut_first, cut_then, on_err, on_err_map}
-use Rattle.sec_cli.proofs.texts.write_number_and.Goals as goal
-
-pub returns-in_err-write_number-clause-cut_short : goal.returns-in_err-write_number-clause-cut_short
-returns-in_err-write_number-clause-cut_short g c = on_err _ _ (cut_first _ _ _ _ c.in_err-write_number.ensures.cut_short)
-
-pub returns-clause-cut_short : goal.returns-clause-cut_short
-returns-clause-cut_short g c = on_err_map _ _ _ (cut_then _ _ _ _ _ c.in_ok-write_number.ensures.ok) c.write_text.ensures.cut_short
