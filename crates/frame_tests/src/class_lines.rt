@@ -1,38 +1,23 @@
-use aig_graph::{BuildFault, NetBuilder, Netlist};
+use crate::circuits::{TOGGLE, pair_of};
 use bit_rows::BitRow;
-use circ_model::Lit;
 use class_partition::Classes;
 use class_text::push_class_lines;
-use product_machine::{PairFault, Product};
+use product_machine::Product;
 use std::alloc::{AllocError, Global};
 use std::test::Fail;
 
-// A latch that toggles from zero.
-fn toggling(alloc: Global) -> Result<Netlist, BuildFault> {
-    let mut net = NetBuilder::new(alloc, 1)?;
-    net.latch(1, Lit::of(1, true), Lit::of(0, false))?;
-    net.output(Lit::of(1, false))?;
-    net.finish(alloc)
-}
-
-fn pair_of(
-    alloc: Global,
-    left: Result<Netlist, BuildFault>,
-    right: Result<Netlist, BuildFault>,
-) -> Result<Product, PairFault> {
-    match (left, right) {
-        (Ok(left), Ok(right)) => Product::new(alloc, left, right),
-        _ => Err(PairFault::Memory),
-    }
-}
-
-// The lines of one class of all places, the first two of which are told complements.
-fn lines_of(alloc: Global, product: &Product) -> Result<Vec<u8>, AllocError> {
-    let mut phases = BitRow::with_len(alloc, product.len())?;
-    if product.len() > 1 {
+// One class of so many places, the first two of which are told complements.
+fn one_class(alloc: Global, places: u32) -> Result<Classes, AllocError> {
+    let mut phases = BitRow::with_len(alloc, places)?;
+    if phases.len() > 1 {
         phases.set(1, true);
     }
-    let classes = Classes::one_class(alloc, &phases)?;
+    Classes::one_class(alloc, &phases)
+}
+
+// The lines of that class of all places.
+fn lines_of(alloc: Global, product: &Product) -> Result<Vec<u8>, AllocError> {
+    let classes = one_class(alloc, product.len())?;
     let mut text = Vec::new(alloc);
     if classes.len() == product.len() {
         push_class_lines(alloc, product, &classes, &mut text)?;
@@ -40,14 +25,18 @@ fn lines_of(alloc: Global, product: &Product) -> Result<Vec<u8>, AllocError> {
     Ok(text)
 }
 
+// Whether the class has this line.
+fn has_line(alloc: Global, product: &Product, line: &[u8]) -> bool {
+    match lines_of(alloc, product) {
+        Ok(text) => text.as_slice() == line,
+        Err(_) => false,
+    }
+}
+
 #[test]
 fn a_class_is_a_line(rt: HostRuntime) -> Result<(), Fail> {
-    let alloc = rt.alloc();
-    match pair_of(alloc, toggling(alloc), toggling(alloc)) {
-        Ok(product) => {
-            let text = lines_of(alloc, &product)?;
-            assert!(rt; text.as_slice() == b"class c !l1 r1\n".as_slice());
-        }
+    match pair_of(rt.alloc(), TOGGLE, TOGGLE) {
+        Ok(product) => assert!(rt; has_line(rt.alloc(), &product, b"class c !l1 r1\n")),
         Err(_) => assert!(rt; false),
     }
     Ok(())

@@ -5,6 +5,8 @@
 #[cfg(test)]
 mod certificates;
 #[cfg(test)]
+mod circuits;
+#[cfg(test)]
 mod class_lines;
 #[cfg(test)]
 mod induction;
@@ -14,6 +16,8 @@ mod least_runs;
 mod partitions;
 #[cfg(test)]
 mod products;
+#[cfg(test)]
+mod rows;
 #[cfg(test)]
 mod simulation;
 #[cfg(test)]

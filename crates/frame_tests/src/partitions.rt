@@ -1,19 +1,8 @@
-use bit_rows::BitRow;
+use crate::rows::row_of;
 use circ_model::Lit;
 use class_partition::{Classes, Needed};
 use std::alloc::{AllocError, Global};
 use std::test::Fail;
-
-// A row of six bits, that of place 0 lowest.
-fn row_of(alloc: Global, bits: u32) -> Result<BitRow, AllocError> {
-    let mut row = BitRow::with_len(alloc, 6)?;
-    for i in 0..6 {
-        if i < row.len() {
-            row.set(i, (bits >> i) & 1 == 1);
-        }
-    }
-    Ok(row)
-}
 
 // The least place of each place's class, and the member of the needed pair from each place on; 9 for none.
 fn table_of(classes: &Classes) -> [[u32; 6]; 2] {
@@ -30,36 +19,58 @@ fn table_of(classes: &Classes) -> [[u32; 6]; 2] {
     [least, members]
 }
 
+// One class of six places, of which 1, 2 and 5 have the phase 1.
+fn six_places(alloc: Global) -> Result<Classes, AllocError> {
+    Classes::one_class(alloc, &row_of(alloc, 6, 0b100110)?)
+}
+
+// Splits by a row. Answers how many classes their copy still has, were added and are; 9 where the row doesn't fit.
+fn counts_by_row(alloc: Global, classes: &mut Classes, bits: u32) -> Result<[u32; 3], AllocError> {
+    let copy = classes.copy(alloc)?;
+    let row = row_of(alloc, 6, bits)?;
+    if row.len() != classes.len() {
+        return Ok([9; 3]);
+    }
+    let added = classes.split_by(&row);
+    Ok([copy.count(), added, classes.count()])
+}
+
+// Whether literals of the classes that the rows leave are paired as they must: by the phases place 1 is the complement of place
+// 0, and place 5 equals place 2.
+fn are_paired(classes: &Classes) -> bool {
+    if classes.len() != 6 {
+        return false;
+    }
+    let (zero, plain, complement) = (Lit::of(0, false), Lit::of(1, false), Lit::of(1, true));
+    classes.paired(zero, complement)
+        && !classes.paired(zero, plain)
+        && classes.paired(Lit::of(2, false), Lit::of(5, false))
+        && classes.same(2, 5)
+        && !classes.same(2, 3)
+        && classes.phase(5)
+        && !classes.phase(3)
+}
+
 #[test]
 fn rows_split_classes_by_bits_and_phases(rt: HostRuntime) -> Result<(), Fail> {
-    let alloc = rt.alloc();
-    let mut classes = Classes::one_class(alloc, &row_of(alloc, 0b100110)?)?;
-    for (bits, [before, added, after], least, members) in [
+    let mut classes = six_places(rt.alloc())?;
+    for (bits, counts, least, members) in [
         (0b001010, [1, 1, 2], [0, 0, 2, 2, 0, 2], [1, 1, 3, 3, 4, 5]),
         (0b101101, [2, 2, 4], [0, 0, 2, 3, 4, 2], [1, 1, 5, 5, 5, 5]),
         (0b010010, [4, 0, 4], [0, 0, 2, 3, 4, 2], [1, 1, 5, 5, 5, 5]),
     ] {
-        let copy = classes.copy(alloc)?;
-        let row = row_of(alloc, bits)?;
-        assert!(rt; row.len() == classes.len() && classes.split_by(&row) == added);
-        assert!(rt; copy.count() == before && classes.count() == after);
-        assert!(rt; table_of(&classes) == [least, members] && classes.next_pair(6).is_none());
+        assert!(rt; counts_by_row(rt.alloc(), &mut classes, bits)? == counts);
+        assert!(rt; table_of(&classes) == [least, members]);
     }
     let needed = Some(Needed { rep: 2, member: 5 });
-    assert!(rt; classes.len() == 6 && classes.next_pair(2) == needed);
-    if classes.len() == 6 {
-        // by the phases place 1 is the complement of place 0, and place 5 equals place 2
-        let (zero, plain, complement) = (Lit::of(0, false), Lit::of(1, false), Lit::of(1, true));
-        assert!(rt; classes.paired(zero, complement) && !classes.paired(zero, plain));
-        assert!(rt; classes.paired(Lit::of(2, false), Lit::of(5, false)) && classes.phase(5));
-        assert!(rt; classes.same(2, 5) && !classes.same(2, 3) && !classes.phase(3));
-    }
+    assert!(rt; classes.next_pair(2) == needed && classes.next_pair(6) == None);
+    assert!(rt; are_paired(&classes));
     Ok(())
 }
 
 // Splits by each of the 64 rows of the words in turn.
 fn split_by_rows(alloc: Global, classes: &mut Classes, words: &[u64; 6]) -> Result<(), AllocError> {
-    let mut row = BitRow::with_len(alloc, 6)?;
+    let mut row = row_of(alloc, 6, 0)?;
     for b in 0..64u32 {
         for place in 0..6 {
             if place < row.len() {
@@ -86,9 +97,24 @@ fn split_by_words(
     }
 }
 
+// Whether the words split the classes as their rows do in turn, and so.
+fn split_alike(
+    alloc: Global,
+    classes: &mut Classes,
+    words: &[u64; 6],
+    added: u32,
+    least: [u32; 6],
+) -> Result<bool, AllocError> {
+    let mut copy = classes.copy(alloc)?;
+    let after = classes.count().saturating_add(added);
+    split_by_rows(alloc, &mut copy, words)?;
+    let found = split_by_words(alloc, classes, words)?;
+    let alike = table_of(&copy) == table_of(classes) && copy.count() == classes.count();
+    Ok(alike && found == added && classes.count() == after && table_of(classes)[0] == least)
+}
+
 #[test]
 fn words_split_as_their_rows_in_turn(rt: HostRuntime) -> Result<(), Fail> {
-    let alloc = rt.alloc();
     let high = 1u64 << 63;
     for (bits, words, added, least) in [
         (0b100110, [0, !0, !0, 0, 0, !0], 0, [0, 0, 0, 0, 0, 0]),
@@ -99,20 +125,9 @@ fn words_split_as_their_rows_in_turn(rt: HostRuntime) -> Result<(), Fail> {
         (0b001010, [7, !7, !7, 9, high, !7], 2, [0, 0, 2, 3, 4, 2]),
         (0b001010, [0, !1, !0, 3, 4, !5], 4, [0, 1, 2, 3, 4, 5]),
     ] {
-        // phases of places 1, 2 and 5 are 1
-        let mut classes = Classes::one_class(alloc, &row_of(alloc, 0b100110)?)?;
-        let first = row_of(alloc, bits)?;
-        if first.len() == classes.len() {
-            classes.split_by(&first);
-        }
-        let mut copy = classes.copy(alloc)?;
-        let before = classes.count();
-        assert!(rt; split_by_words(alloc, &mut classes, &words)? == added);
-        split_by_rows(alloc, &mut copy, &words)?;
-        assert!(rt;
-            before < 7 && classes.count() == before + added && table_of(&classes)[0] == least
-        );
-        assert!(rt; copy.count() == classes.count() && table_of(&copy) == table_of(&classes));
+        let mut classes = six_places(rt.alloc())?;
+        counts_by_row(rt.alloc(), &mut classes, bits)?;
+        assert!(rt; split_alike(rt.alloc(), &mut classes, &words, added, least)?);
     }
     Ok(())
 }

@@ -1,61 +1,59 @@
-use aig_graph::{BuildFault, NetBuilder, Netlist};
+ghost use Rattle.std.specs.Prelude.{◌≡◌, ◌<◌, Some, length};
+ghost use Rattle.sim_words.specs.Simulation.{HasFrame, HasNext, next_frame};
+
+use crate::circuits::{TOGGLE_FROM_EITHER, TOGGLE_FROM_ONE, pair_of};
+use crate::rows::has_bits;
 use bit_rows::BitRow;
-use circ_model::Lit;
-use product_machine::{PairFault, Product};
+use product_machine::Product;
 use sim_words::{SimState, Stimulus};
-use std::alloc::Global;
+use std::alloc::{AllocError, Global};
 use std::test::Fail;
 
-fn literal(number: u32) -> Lit {
-    Lit::of(number / 2, number % 2 == 1)
+// Goes to the next frame of a pair without inputs, and says whether it has these words.
+fn next_is(sim: &mut SimState<'_>, words: &[u64]) -> bool
+    requires inputs { length sim.old.pair.left.inputs ≡ 0 }
+    requires frame { HasNext sim.old.frame }
+    ensures pair { sim.new.pair ≡ sim.old.pair }
+    ensures frame { sim.new.frame ≡ Some (next_frame sim.old.frame) }
+{
+    sim.step(&[]);
+    sim.words() == words
 }
 
-// A latch that toggles, with this reset literal.
-fn toggle(alloc: Global, reset: Lit) -> Result<Netlist, BuildFault> {
-    let mut net = NetBuilder::new(alloc, 1)?;
-    net.latch(1, literal(3), reset)?;
-    net.output(literal(2))?;
-    net.finish(alloc)
-}
-
-fn pair_of(
-    left: Result<Netlist, BuildFault>,
-    right: Result<Netlist, BuildFault>,
-    alloc: Global,
-) -> Result<Product, PairFault> {
-    match (left, right) {
-        (Ok(left), Ok(right)) => Product::new(alloc, left, right),
-        _ => Err(PairFault::Memory),
+// Whether the row of a run's frame has these bits, lowest first.
+fn is_column(alloc: Global, product: &Product, sim: &SimState<'_>, run: u32, bits: u32) -> bool
+    requires pair { sim.now.pair ≡ product.now }
+    requires frame { HasFrame sim.now.frame }
+    requires run { run < 64 }
+{
+    match BitRow::with_len(alloc, product.len()) {
+        Ok(mut row) => {
+            sim.column(run, &mut row);
+            has_bits(&row, bits)
+        }
+        Err(_) => false,
     }
+}
+
+// Whether two toggling latches of which the left one is free have the words of three frames.
+fn toggles_from(alloc: Global, product: &Product, start: u64) -> Result<bool, AllocError> {
+    let mut sim = SimState::new(alloc, product)?;
+    if sim.free_latches() != 1 || product.inputs() != 0 || product.len() != 3 {
+        return Ok(false);
+    }
+    sim.reset(&[start]);
+    let first = next_is(&mut sim, &[0, start, !0]) && sim.frame() == 0;
+    let second = next_is(&mut sim, &[0, !start, 0]) && sim.word(1) == !start;
+    let runs = is_column(alloc, product, &sim, 3, 0b000)
+        && is_column(alloc, product, &sim, 63, 0b010);
+    let third = next_is(&mut sim, &[0, start, !0]) && sim.frame() == 2;
+    Ok(first && second && runs && third)
 }
 
 #[test]
 fn toggling_latches_start_where_their_lanes_say(rt: HostRuntime) -> Result<(), Fail> {
-    let alloc = rt.alloc();
-    let free = toggle(alloc, literal(2));
-    let one = toggle(alloc, literal(1));
-    match pair_of(free, one, alloc) {
-        Ok(product) => {
-            let start = 0x00ff_0000_1234_5678u64;
-            let mut sim = SimState::new(alloc, &product)?;
-            assert!(rt; sim.free_latches() == 1 && product.inputs() == 0 && product.len() == 3);
-            if sim.free_latches() == 1 && product.inputs() == 0 && product.len() == 3 {
-                sim.reset(&[start]);
-                sim.step(&[]);
-                assert!(rt; sim.frame() == 0);
-                assert_eq!(rt; [sim.word(0), sim.word(1), sim.word(2)], [0, start, !0]);
-                sim.step(&[]);
-                assert_eq!(rt; [sim.word(0), sim.word(1), sim.word(2)], [0, !start, 0]);
-                let mut row = BitRow::with_len(alloc, product.len())?;
-                sim.column(3, &mut row);
-                assert_eq!(rt; [row.get(0), row.get(1), row.get(2)], [false, false, false]);
-                sim.column(63, &mut row);
-                assert_eq!(rt; [row.get(0), row.get(1), row.get(2)], [false, true, false]);
-                sim.step(&[]);
-                assert!(rt; sim.frame() == 2 && sim.words().len() == 3);
-                assert_eq!(rt; [sim.word(0), sim.word(1), sim.word(2)], [0, start, !0]);
-            }
-        }
+    match pair_of(rt.alloc(), TOGGLE_FROM_EITHER, TOGGLE_FROM_ONE) {
+        Ok(product) => assert!(rt; toggles_from(rt.alloc(), &product, 0x00ff_0000_1234_5678)?),
         Err(_) => assert!(rt; false),
     }
     Ok(())
@@ -70,7 +68,7 @@ fn a_seed_repeats_its_words(rt: HostRuntime) {
     let mut last = [0; 1];
     again.fill(&mut first);
     again.fill(&mut last);
-    assert_eq!(rt; [first[0], first[1], last[0]], whole);
+    assert!(rt; [first[0], first[1], last[0]] == whole);
     let mut other = [0; 3];
     Stimulus::new(2).fill(&mut other);
     assert!(rt; other != whole);

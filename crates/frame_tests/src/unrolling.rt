@@ -5,43 +5,16 @@ ghost use Rattle.circ_model.specs.Correspondence.{IsLiteral};
 ghost use Rattle.circ_model.specs.Meaning.{places_of};
 ghost use Rattle.cnf_store.specs.Clauses.{IsLiteral as IsVariable, AreLiterals, literal_true, clause_true, satisfies};
 
-use aig_graph::{BuildFault, NetBuilder, Netlist};
+use crate::circuits::{TOGGLE, pair_of};
+use crate::rows::{has_bits, row_of};
 use bit_rows::BitRow;
 use circ_model::Lit;
 use class_partition::Classes;
 use cnf_store::Cnf;
 use frame_unroll::{Found, Prepared, Unrolled, Workspace};
-use product_machine::{PairFault, Path, Product};
+use product_machine::{Path, Product};
 use std::alloc::{AllocError, Global};
 use std::test::Fail;
-
-// A latch that toggles from 0 and is shown.
-fn toggle(alloc: Global) -> Result<Netlist, BuildFault> {
-    let mut net = NetBuilder::new(alloc, 1)?;
-    net.latch(1, Lit::of(1, true), Lit::of(0, false))?;
-    net.output(Lit::of(1, false))?;
-    net.finish(alloc)
-}
-
-fn two_toggles(alloc: Global) -> Result<Product, PairFault> {
-    match (toggle(alloc), toggle(alloc)) {
-        (Ok(left), Ok(right)) => Product::new(alloc, left, right),
-        _ => Err(PairFault::Memory),
-    }
-}
-
-// A row from the bits of a number, lowest first.
-fn row_of(alloc: Global, len: u32, bits: u32) -> Result<BitRow, AllocError>
-    requires { len ≤ 32 }
-{
-    let mut row = BitRow::with_len(alloc, len)?;
-    for i in 0..len {
-        if i < row.len() {
-            row.set(i, (bits >> i) & 1 == 1);
-        }
-    }
-    Ok(row)
-}
 
 // Whether a row makes a literal true.
 fn literal_holds(literal: i32, row: &BitRow) -> bool
@@ -178,19 +151,6 @@ fn worked(alloc: Global, product: &Product) -> Result<bool, AllocError> {
     }
 }
 
-// Whether a row of at most 32 bits is that of a number, lowest first.
-fn has_bits(row: &BitRow, bits: u32) -> bool {
-    if row.len() > 32 {
-        return false;
-    }
-    for i in 0..row.len() {
-        if row.get(i) != ((bits >> i) & 1 == 1) {
-            return false;
-        }
-    }
-    true
-}
-
 // Two literals, the first and the last frame in which they may differ, and the first frame in which they do with its row.
 type Row = (Lit, Lit, u32, u32, Option<(u32, u32)>);
 
@@ -266,19 +226,30 @@ fn step_answers(alloc: Global, work: &mut Workspace, product: &Product) -> Resul
     Ok(true)
 }
 
+// Whether all of them answer so in one workspace, those from reset again at the end.
+fn answer_in(alloc: Global, work: &mut Workspace, product: &Product) -> Result<bool, AllocError>
+    requires { places_of product.now ≡ 3 }
+{
+    Ok(
+        reset_answers(alloc, work, product)?
+            && step_answers(alloc, work, product)?
+            && reset_answers(alloc, work, product)?,
+    )
+}
+
+// Whether they do in a new workspace.
+fn are_answered(alloc: Global, product: &Product) -> bool {
+    if product.len() != 3 {
+        return false;
+    }
+    let mut work = Workspace::new();
+    answer_in(alloc, &mut work, product) == Ok(true)
+}
+
 #[test]
 fn questions_over_frames_of_two_toggling_latches(rt: HostRuntime) -> Result<(), Fail> {
-    let alloc = rt.alloc();
-    match two_toggles(alloc) {
-        Ok(product) => {
-            assert!(rt; product.len() == 3);
-            if product.len() == 3 {
-                let mut work = Workspace::new();
-                assert!(rt; reset_answers(alloc, &mut work, &product)?);
-                assert!(rt; step_answers(alloc, &mut work, &product)?);
-                assert!(rt; reset_answers(alloc, &mut work, &product)?);
-            }
-        }
+    match pair_of(rt.alloc(), TOGGLE, TOGGLE) {
+        Ok(product) => assert!(rt; are_answered(rt.alloc(), &product)),
         Err(_) => assert!(rt; false),
     }
     Ok(())
@@ -287,7 +258,7 @@ fn questions_over_frames_of_two_toggling_latches(rt: HostRuntime) -> Result<(), 
 #[test]
 fn two_toggling_latches_as_clauses(rt: HostRuntime) -> Result<(), Fail> {
     let alloc = rt.alloc();
-    match two_toggles(alloc) {
+    match pair_of(alloc, TOGGLE, TOGGLE) {
         Ok(product) => assert!(rt; worked(alloc, &product)?),
         Err(_) => assert!(rt; false),
     }
