@@ -65,6 +65,30 @@ pub struct Demo {
     pub workers: u32,
 }
 
+/// The words of `climb`.
+#[derive(Clone, Copy, Debug, PartialEq, Eq)]
+pub struct Climb<'w> {
+    pub left: &'w str,
+    pub right: &'w str,
+    /// The greatest depth of the induction that is tried.
+    pub most: u32,
+    /// How many workers are asked for.
+    pub workers: u32,
+    /// Whether the trace of a difference is that of its least run.
+    pub least: bool,
+}
+
+/// The words of `batch`.
+#[derive(Clone, Copy, Debug, PartialEq, Eq)]
+pub struct Batch<'w> {
+    /// The file that lists the pairs.
+    pub list: &'w str,
+    /// The depth of the induction.
+    pub k: u32,
+    /// How many workers are asked for.
+    pub workers: u32,
+}
+
 /// What the words of a run ask for.
 #[derive(Clone, Copy, Debug, PartialEq, Eq)]
 pub enum Command<'w> {
@@ -72,6 +96,8 @@ pub enum Command<'w> {
     Replay(Replay<'w>),
     Verify(Verify<'w>),
     Demo(Demo),
+    Climb(Climb<'w>),
+    Batch(Batch<'w>),
 }
 
 /// Why no command was read.
