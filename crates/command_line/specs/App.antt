@@ -80,6 +80,9 @@ demo_line = record { command = codes "demo"; names = size ∷ []; options = dept
 abbrev pub climb_line : Line
 climb_line = record { command = codes "climb"; names = name (codes "LEFT") ∷ name (codes "RIGHT") ∷ []; options = most ∷ workers ∷ flag (codes "least") ∷ [] }
 
+abbrev pub reduce_line : Line
+reduce_line = record { command = codes "reduce"; names = name (codes "NET") ∷ name (codes "OUT") ∷ []; options = depth ∷ workers ∷ flag (codes "binary") ∷ [] }
+
 abbrev pub batch_line : Line
 batch_line = record { command = codes "batch"; names = name (codes "LIST") ∷ []; options = depth ∷ workers ∷ [] }
 
@@ -126,6 +129,9 @@ demo_app = app_for demo_line
 unfoldable pub climb_app : App
 climb_app = app_for climb_line
 
+unfoldable pub reduce_app : App
+reduce_app = app_for reduce_line
+
 unfoldable pub batch_app : App
 batch_app = app_for batch_line
 
@@ -133,7 +139,7 @@ abbrev pub with_required_subcommand : App → App
 with_required_subcommand a = on_top (λ (s : Shape). record s { subcommand_required = true }) a
 
 unfoldable pub sec_app : App
-sec_app = with_subcommand (with_subcommand (with_subcommand (with_subcommand (with_subcommand (with_subcommand (with_required_subcommand (new_app (codes "sec"))) check_app.top) replay_app.top) verify_app.top) demo_app.top) climb_app.top) batch_app.top
+sec_app = with_subcommand (with_subcommand (with_subcommand (with_subcommand (with_subcommand (with_subcommand (with_subcommand (with_required_subcommand (new_app (codes "sec"))) check_app.top) replay_app.top) verify_app.top) demo_app.top) climb_app.top) reduce_app.top) batch_app.top
 
 -- a command is this one
 pub record IsCommand (app : App) (c : Command) : Type 0 where

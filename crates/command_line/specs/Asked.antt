@@ -5,6 +5,7 @@ use Rattle.command_line.specs.declared.command.Replay.{Replay}
 use Rattle.command_line.specs.declared.command.Verify.{Verify}
 use Rattle.command_line.specs.declared.command.Demo.{Demo}
 use Rattle.command_line.specs.declared.command.Climb.{Climb}
+use Rattle.command_line.specs.declared.command.Reduce.{Reduce}
 use Rattle.command_line.specs.declared.command.Batch.{Batch}
 use Rattle.command_line.specs.declared.command.Command.{Command}
 use Rattle.command_line.specs.declared.command.Command.TheVariants as commands
@@ -41,6 +42,13 @@ pub record ClimbAsked : Type 0 where
   pub workers : ℕ
   pub least : Bool
 
+pub record ReduceAsked : Type 0 where
+  pub net : List ℕ
+  pub out : List ℕ
+  pub k : ℕ
+  pub workers : ℕ
+  pub binary : Bool
+
 pub record BatchAsked : Type 0 where
   pub list : List ℕ
   pub k : ℕ
@@ -52,6 +60,7 @@ pub data Asked : Type 0 where
   ForVerify : VerifyAsked → Asked
   ForDemo : Demo → Asked
   ForClimb : ClimbAsked → Asked
+  ForReduce : ReduceAsked → Asked
   ForBatch : BatchAsked → Asked
 
 abbrev pub check_asked : Check → CheckAsked
@@ -66,6 +75,9 @@ verify_asked c = record { left = c.left.now; right = c.right.now; cert = c.cert.
 abbrev pub climb_asked : Climb → ClimbAsked
 climb_asked c = record { left = c.left.now; right = c.right.now; most = c.most; workers = c.workers; least = c.least }
 
+abbrev pub reduce_asked : Reduce → ReduceAsked
+reduce_asked r = record { net = r.net.now; out = r.out.now; k = r.k; workers = r.workers; binary = r.binary }
+
 abbrev pub batch_asked : Batch → BatchAsked
 batch_asked b = record { list = b.list.now; k = b.k; workers = b.workers }
 
@@ -76,6 +88,7 @@ asked_of (commands.Replay c) = ForReplay (replay_asked c)
 asked_of (commands.Verify c) = ForVerify (verify_asked c)
 asked_of (commands.Demo d) = ForDemo d
 asked_of (commands.Climb c) = ForClimb (climb_asked c)
+asked_of (commands.Reduce r) = ForReduce (reduce_asked r)
 asked_of (commands.Batch b) = ForBatch (batch_asked b)
 
 -- the greatest depth of the induction and of the search for a difference, the most workers, and the greatest size of a demo
@@ -112,6 +125,12 @@ pub record IsClimbWithin (c : ClimbAsked) : Type 0 where
   pub few : c.most ≤ most_depth
   pub workers : (0 < c.workers) × (c.workers ≤ most_workers)
 
+-- those of `reduce`
+pub record IsReduceWithin (r : ReduceAsked) : Type 0 where
+  pub some : 0 < r.k
+  pub few : r.k ≤ most_depth
+  pub workers : (0 < r.workers) × (r.workers ≤ most_workers)
+
 -- and those of `batch`
 pub record IsBatchWithin (b : BatchAsked) : Type 0 where
   pub some : 0 < b.k
@@ -125,6 +144,7 @@ IsWithin (ForReplay c) = Unit {0}
 IsWithin (ForVerify c) = Unit {0}
 IsWithin (ForDemo d) = IsDemoWithin d
 IsWithin (ForClimb c) = IsClimbWithin c
+IsWithin (ForReduce r) = IsReduceWithin r
 IsWithin (ForBatch b) = IsBatchWithin b
 
 -- the values of arguments, by their ids: a text, a number that has to be there, an option's number within limits, one that may be
@@ -194,6 +214,13 @@ climb_from left right workers most least = None
 
 abbrev pub climb_of : Values → Option Asked
 climb_of v = climb_from (v.text (codes "LEFT")) (v.text (codes "RIGHT")) (v.number (codes "j") most_workers) (most_from (v.optional (codes "m") most_depth)) (v.flag (codes "least"))
+
+abbrev pub reduce_from : Option (List ℕ) → Option (List ℕ) → Option ℕ → Option ℕ → Bool → Option Asked
+reduce_from (Some net) (Some out) (Some k) (Some workers) binary = Some (ForReduce (record { net = net; out = out; k = k; workers = workers; binary = binary }))
+reduce_from net out k workers binary = None
+
+abbrev pub reduce_of : Values → Option Asked
+reduce_of v = reduce_from (v.text (codes "NET")) (v.text (codes "OUT")) (v.number (codes "k") most_depth) (v.number (codes "j") most_workers) (v.flag (codes "binary"))
 
 abbrev pub batch_from : Option (List ℕ) → Option ℕ → Option ℕ → Option Asked
 batch_from (Some list) (Some k) (Some workers) = Some (ForBatch (record { list = list; k = k; workers = workers }))

@@ -78,6 +78,21 @@ pub struct Climb<'w> {
     pub least: bool,
 }
 
+/// The words of `reduce`.
+#[derive(Clone, Copy, Debug, PartialEq, Eq)]
+pub struct Reduce<'w> {
+    /// The netlist's file.
+    pub net: &'w str,
+    /// Where the reduced netlist is stored.
+    pub out: &'w str,
+    /// The depth of the induction.
+    pub k: u32,
+    /// How many workers are asked for.
+    pub workers: u32,
+    /// Whether it is stored in the binary form.
+    pub binary: bool,
+}
+
 /// The words of `batch`.
 #[derive(Clone, Copy, Debug, PartialEq, Eq)]
 pub struct Batch<'w> {
@@ -97,6 +112,7 @@ pub enum Command<'w> {
     Verify(Verify<'w>),
     Demo(Demo),
     Climb(Climb<'w>),
+    Reduce(Reduce<'w>),
     Batch(Batch<'w>),
 }
 

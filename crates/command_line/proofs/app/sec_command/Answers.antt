@@ -19,4 +19,5 @@ returns c =
     let three = with_one_subcommand _ _ _ _ _ c.in_ok-subcommand-3.ensures c.in_ok-verify_command.ensures two in
     let four = with_one_subcommand _ _ _ _ _ c.in_ok-subcommand-4.ensures c.in_ok-demo_command.ensures three in
     let five = with_one_subcommand _ _ _ _ _ c.in_ok-subcommand-5.ensures c.in_ok-climb_command.ensures four in
-    IfOk-weaker c.subcommand-6.result _ _ (λ r added. with_one_subcommand _ r _ _ _ added c.in_ok-batch_command.ensures five) c.subcommand-6.ensures
+    let six = with_one_subcommand _ _ _ _ _ c.in_ok-subcommand-6.ensures c.in_ok-reduce_command.ensures five in
+    IfOk-weaker c.subcommand-7.result _ _ (λ r added. with_one_subcommand _ r _ _ _ added c.in_ok-batch_command.ensures six) c.subcommand-7.ensures
