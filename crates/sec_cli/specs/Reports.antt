@@ -6,7 +6,7 @@ use Rattle.aiger_codec.specs.declared.fault.NetKind.TheVariants as kinds
 use Rattle.sec_cli.specs.declared.ending.Answer.{Answer}
 use Rattle.sec_cli.specs.declared.ending.Refusal.{Refusal}
 use Rattle.sec_cli.specs.declared.ending.Refusal.TheVariants as refusals
-use Rattle.command_line.specs.Asked.{Asked, ForCheck, ForReplay, ForVerify, ForDemo}
+use Rattle.command_line.specs.Asked.{Asked, ForCheck, ForReplay, ForVerify, ForDemo, ForClimb, ForReduce, ForBatch}
 use Rattle.sec_cli.specs.Endings.{Ending, longest_third, left_name, right_name, third_name}
 use Rattle.run_texts.specs.Texts.{fault_text, read_failed_text, store_failed_text, write_failed_text, memory_text}
 use Rattle.run_texts.specs.Told.{IsTold, unpaired_status, unpaired_text}
@@ -38,6 +38,9 @@ store_name (ForCheck c) status = if status == 1 then c.trace else if status == 0
 store_name (ForReplay c) status = None
 store_name (ForVerify c) status = None
 store_name (ForDemo d) status = None
+store_name (ForClimb c) status = None
+store_name (ForReduce r) status = None
+store_name (ForBatch b) status = None
 
 -- all files but this one stay
 abbrev pub OthersStay : (List ℕ → Option (List ℕ)) → (List ℕ → Option (List ℕ)) → List ℕ → Type 0
