@@ -6,7 +6,8 @@ use Rattle.circ_model.specs.Verdict.{Verdict, Equivalent, Different, Undecided}
 use Rattle.refine_board.specs.Running.{Written}
 use Rattle.command_line.specs.Asked.{CheckAsked, ClimbAsked, ForClimb}
 use Rattle.sec_cli.specs.declared.ending.Answer.{Answer}
-use Rattle.sec_cli.specs.Answers.{IsCheckAnswer, IsJournalOf, IsRefinedText, IsVerdictText, IsVerdictAnswer, is_refined, status_of_verdict}
+use Rattle.run_texts.specs.Verdicts.{status_of_verdict}
+use Rattle.sec_cli.specs.Answers.{IsCheckAnswer, IsJournalOf, IsRefinedText, IsVerdictText, IsVerdictAnswer, is_refined}
 use Rattle.sec_cli.specs.Climbs.{IsOpen, IsLastTried, IsJournalBefore, IsClimbAnswer, check_of_climb}
 use Rattle.sec_cli.specs.Endings.{HasJournal}
 

@@ -1,5 +1,5 @@
 -- How a run ends, before anything of it is written.
-use Rattle.std.specs.Prelude.{◌≡◌, ◌≢◌, ℕ, ◌<◌, ◌≤◌, List, [], ◌∷◌, length, Bool, IsTrue, false, Option, None, is_some, IsSomeAnd, Result, Ok, Err}
+use Rattle.std.specs.Prelude.{◌≡◌, ◌≢◌, ℕ, ◌<◌, ◌≤◌, ◌⊎◌, List, [], ◌∷◌, length, Bool, IsTrue, false, Option, None, is_some, IsSomeAnd, Result, Ok, Err}
 use Rattle.circ_model.specs.Meaning.{Pair}
 use Rattle.corr_certificate.specs.Certificate.{IsChecked}
 use Rattle.corr_certificate.specs.declared.fault.Checked.TheVariants.{No}
@@ -8,11 +8,12 @@ use Rattle.trace_witness.specs.Texts.{trace_of}
 use Rattle.refine_board.specs.Running.{Written}
 use Rattle.sec_cli.specs.Answers.{IsCheckAnswer, IsReplayAnswer, IsVerifyAnswer, IsDemoAnswer, is_refined}
 use Rattle.sec_cli.specs.Climbs.{IsClimbAnswer}
-use Rattle.command_line.specs.Asked.{Asked, ForCheck, ForReplay, ForVerify, ForDemo, ForClimb, ForReduce, ForBatch, CheckAsked, ClimbAsked}
+use Rattle.command_line.specs.Asked.{Asked, ForCheck, ForReplay, ForVerify, ForDemo, ForClimb, ForReduce, ForBatch, BatchAsked, CheckAsked, ClimbAsked}
 use Rattle.command_line.specs.declared.command.Demo.{Demo}
 use Rattle.sec_cli.specs.declared.ending.Answer.{Answer}
 use Rattle.sec_cli.specs.declared.ending.Refusal.{Refusal}
 use Rattle.sec_cli.specs.declared.ending.Refusal.TheVariants as refusals
+use Rattle.batch_run.specs.Endings.{IsBatchEnding, IsFailed, failed_of}
 use Rattle.pair_files.specs.Pairs.{ArePair, IsNoPair, IsLoadFailed}
 use Rattle.pair_files.specs.Loads.{failed_side}
 
@@ -50,7 +51,7 @@ third_name (ForVerify c) = c.cert
 third_name (ForDemo d) = []
 third_name (ForClimb c) = []
 third_name (ForReduce r) = []
-third_name (ForBatch b) = []
+third_name (ForBatch b) = b.list
 
 -- how the check of two files ends
 abbrev pub IsCheckEnding : Option (List ℕ) → Option (List ℕ) → CheckAsked → Ending → Type 0
@@ -61,6 +62,7 @@ IsCheckEnding left right c (Err refusals.ThirdFailed) = ⊥
 IsCheckEnding left right c (Err refusals.ThirdTooLong) = ⊥
 IsCheckEnding left right c (Err (refusals.TraceRefused f)) = ⊥
 IsCheckEnding left right c (Err (refusals.CertRefused f)) = ⊥
+IsCheckEnding left right c (Err (refusals.Unanswered u)) = ⊥
 
 -- how a climb over two files ends
 abbrev pub IsClimbEnding : Option (List ℕ) → Option (List ℕ) → ClimbAsked → Ending → Type 0
@@ -71,6 +73,7 @@ IsClimbEnding left right c (Err refusals.ThirdFailed) = ⊥
 IsClimbEnding left right c (Err refusals.ThirdTooLong) = ⊥
 IsClimbEnding left right c (Err (refusals.TraceRefused f)) = ⊥
 IsClimbEnding left right c (Err (refusals.CertRefused f)) = ⊥
+IsClimbEnding left right c (Err (refusals.Unanswered u)) = ⊥
 
 -- and how the replay of a third file on them ends
 abbrev pub IsReplayEnding : Bool → Option (List ℕ) → Option (List ℕ) → Option (List ℕ) → Ending → Type 0
@@ -80,6 +83,7 @@ IsReplayEnding tied left right trace (Err refusals.ThirdFailed) = (pair : Pair) 
 IsReplayEnding tied left right trace (Err refusals.ThirdTooLong) = (pair : Pair) × ArePair tied left right pair × IsSomeAnd trace (λ bytes. longest_third < length bytes)
 IsReplayEnding tied left right trace (Err (refusals.TraceRefused f)) = (pair : Pair) × ArePair tied left right pair × IsSomeAnd trace (λ bytes. (length bytes ≤ longest_third) × (trace_of pair (lines_of bytes) ≡ Err f))
 IsReplayEnding tied left right trace (Err (refusals.CertRefused f)) = ⊥
+IsReplayEnding tied left right trace (Err (refusals.Unanswered u)) = ⊥
 IsReplayEnding tied left right trace (Ok a) = (pair : Pair) × ArePair tied left right pair × IsSomeAnd trace (λ bytes. (length bytes ≤ longest_third) × IsReplayAnswer pair bytes a)
 
 -- and how the reading of a certificate for them ends
@@ -90,6 +94,7 @@ IsVerifyEnding tied left right cert (Err refusals.ThirdFailed) = (pair : Pair) �
 IsVerifyEnding tied left right cert (Err refusals.ThirdTooLong) = (pair : Pair) × ArePair tied left right pair × IsSomeAnd cert (λ bytes. longest_third < length bytes)
 IsVerifyEnding tied left right cert (Err (refusals.TraceRefused f)) = ⊥
 IsVerifyEnding tied left right cert (Err (refusals.CertRefused f)) = (pair : Pair) × ArePair tied left right pair × IsSomeAnd cert (λ bytes. (length bytes ≤ longest_third) × IsChecked pair bytes (No f))
+IsVerifyEnding tied left right cert (Err (refusals.Unanswered u)) = ⊥
 IsVerifyEnding tied left right cert (Ok a) = (pair : Pair) × ArePair tied left right pair × IsSomeAnd cert (λ bytes. (length bytes ≤ longest_third) × IsVerifyAnswer pair bytes a)
 
 -- a demo has no files: it answers, but for want of memory
@@ -101,6 +106,28 @@ IsDemoEnding d (Err refusals.ThirdFailed) = ⊥
 IsDemoEnding d (Err refusals.ThirdTooLong) = ⊥
 IsDemoEnding d (Err (refusals.TraceRefused f)) = ⊥
 IsDemoEnding d (Err (refusals.CertRefused f)) = ⊥
+IsDemoEnding d (Err (refusals.Unanswered u)) = ⊥
+
+-- how a batch over these files ends: no file is stored, and there is no journal
+abbrev pub IsBatchEnded : (List ℕ → Option (List ℕ)) → BatchAsked → Ending → Type 0
+IsBatchEnded file b (Err refusals.Memory) = Unit {0}
+IsBatchEnded file b (Err (refusals.Unanswered u)) = IsBatchEnding file b.k b.list (Err u)
+IsBatchEnded file b (Ok a) = IsBatchEnding file b.k b.list (Ok (record { text = a.text; status = a.status }))
+IsBatchEnded file b (Err (refusals.Unpaired u)) = ⊥
+IsBatchEnded file b (Err refusals.ThirdFailed) = ⊥
+IsBatchEnded file b (Err refusals.ThirdTooLong) = ⊥
+IsBatchEnded file b (Err (refusals.TraceRefused f)) = ⊥
+IsBatchEnded file b (Err (refusals.CertRefused f)) = ⊥
+
+-- the status of a command's answer; a batch answers 4 where that is the greatest status of its pairs
+abbrev pub IsAnswerStatus : Asked → ℕ → Type 0
+IsAnswerStatus (ForBatch b) status = (status ≤ 2) ⊎ (status ≡ 4)
+IsAnswerStatus (ForCheck c) status = status ≤ 2
+IsAnswerStatus (ForReplay c) status = status ≤ 2
+IsAnswerStatus (ForVerify c) status = status ≤ 2
+IsAnswerStatus (ForDemo d) status = status ≤ 2
+IsAnswerStatus (ForClimb c) status = status ≤ 2
+IsAnswerStatus (ForReduce r) status = status ≤ 2
 
 -- an answer of this status has a journal where it comes from a refinement; a climb may have refined before it came to a difference
 abbrev pub HasJournal : Asked → ℕ → Option Written → Type 0
@@ -123,6 +150,7 @@ failed_names left right trace (Err refusals.Memory) = []
 failed_names left right trace (Err refusals.ThirdTooLong) = []
 failed_names left right trace (Err (refusals.TraceRefused f)) = []
 failed_names left right trace (Err (refusals.CertRefused f)) = []
+failed_names left right trace (Err (refusals.Unanswered u)) = failed_of trace u
 failed_names left right trace (Ok a) = []
 
 -- a load failed
@@ -133,6 +161,7 @@ IsLoadEnding (Err refusals.Memory) = ⊥
 IsLoadEnding (Err refusals.ThirdTooLong) = ⊥
 IsLoadEnding (Err (refusals.TraceRefused f)) = ⊥
 IsLoadEnding (Err (refusals.CertRefused f)) = ⊥
+IsLoadEnding (Err (refusals.Unanswered u)) = IsFailed u
 IsLoadEnding (Ok a) = ⊥
 
 -- how the replay of a trace's file on a pair ends
@@ -144,6 +173,7 @@ IsReplayedAs pair bytes (Err (refusals.Unpaired u)) = ⊥
 IsReplayedAs pair bytes (Err refusals.ThirdFailed) = ⊥
 IsReplayedAs pair bytes (Err refusals.ThirdTooLong) = ⊥
 IsReplayedAs pair bytes (Err (refusals.CertRefused f)) = ⊥
+IsReplayedAs pair bytes (Err (refusals.Unanswered u)) = ⊥
 
 abbrev pub IsReplayed : Pair → Option (List ℕ) → Ending → Type 0
 IsReplayed pair file (Err refusals.Memory) = Unit {0}
@@ -152,12 +182,14 @@ IsReplayed pair file (Err refusals.ThirdTooLong) = IsSomeAnd file (λ bytes. lon
 IsReplayed pair file (Err (refusals.TraceRefused f)) = IsSomeAnd file (λ bytes. (length bytes ≤ longest_third) × (trace_of pair (lines_of bytes) ≡ Err f))
 IsReplayed pair file (Ok a) = IsSomeAnd file (λ bytes. (length bytes ≤ longest_third) × IsReplayAnswer pair bytes a)
 IsReplayed pair file (Err (refusals.CertRefused f)) = ⊥
+IsReplayed pair file (Err (refusals.Unanswered u)) = ⊥
 IsReplayed pair file (Err (refusals.Unpaired u)) = ⊥
 
 -- and how the reading of a certificate's file for it ends
 abbrev pub IsVerifiedAs : Pair → List ℕ → Ending → Type 0
 IsVerifiedAs pair bytes (Err refusals.Memory) = Unit {0}
 IsVerifiedAs pair bytes (Err (refusals.CertRefused f)) = IsChecked pair bytes (No f)
+IsVerifiedAs pair bytes (Err (refusals.Unanswered u)) = ⊥
 IsVerifiedAs pair bytes (Ok a) = IsVerifyAnswer pair bytes a
 IsVerifiedAs pair bytes (Err (refusals.Unpaired u)) = ⊥
 IsVerifiedAs pair bytes (Err refusals.ThirdFailed) = ⊥
@@ -169,11 +201,12 @@ IsVerified pair file (Err refusals.Memory) = Unit {0}
 IsVerified pair file (Err refusals.ThirdFailed) = Unit {0}
 IsVerified pair file (Err refusals.ThirdTooLong) = IsSomeAnd file (λ bytes. longest_third < length bytes)
 IsVerified pair file (Err (refusals.CertRefused f)) = IsSomeAnd file (λ bytes. (length bytes ≤ longest_third) × IsChecked pair bytes (No f))
+IsVerified pair file (Err (refusals.Unanswered u)) = ⊥
 IsVerified pair file (Ok a) = IsSomeAnd file (λ bytes. (length bytes ≤ longest_third) × IsVerifyAnswer pair bytes a)
 IsVerified pair file (Err (refusals.TraceRefused f)) = ⊥
 IsVerified pair file (Err (refusals.Unpaired u)) = ⊥
 
--- the ending isn't that there is no pair
+-- the ending isn't that there is no pair, or no list of pairs
 abbrev pub IsOfPair : Ending → Type 0
 IsOfPair (Err (refusals.Unpaired u)) = ⊥
 IsOfPair (Err refusals.Memory) = Unit {0}
@@ -181,6 +214,7 @@ IsOfPair (Err refusals.ThirdFailed) = Unit {0}
 IsOfPair (Err refusals.ThirdTooLong) = Unit {0}
 IsOfPair (Err (refusals.TraceRefused f)) = Unit {0}
 IsOfPair (Err (refusals.CertRefused f)) = Unit {0}
+IsOfPair (Err (refusals.Unanswered u)) = ⊥
 IsOfPair (Ok a) = Unit {0}
 
 abbrev pub failed_third : List ℕ → Ending → List (List ℕ)
@@ -190,4 +224,5 @@ failed_third trace (Err refusals.Memory) = []
 failed_third trace (Err refusals.ThirdTooLong) = []
 failed_third trace (Err (refusals.TraceRefused f)) = []
 failed_third trace (Err (refusals.CertRefused f)) = []
+failed_third trace (Err (refusals.Unanswered u)) = []
 failed_third trace (Ok a) = []

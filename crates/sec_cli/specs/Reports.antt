@@ -8,6 +8,7 @@ use Rattle.sec_cli.specs.declared.ending.Refusal.{Refusal}
 use Rattle.sec_cli.specs.declared.ending.Refusal.TheVariants as refusals
 use Rattle.command_line.specs.Asked.{Asked, ForCheck, ForReplay, ForVerify, ForDemo, ForClimb, ForReduce, ForBatch}
 use Rattle.sec_cli.specs.Endings.{Ending, longest_third, left_name, right_name, third_name}
+use Rattle.batch_run.specs.Endings.{unanswered_status, unanswered_text}
 use Rattle.run_texts.specs.Texts.{fault_text, read_failed_text, store_failed_text, write_failed_text, memory_text}
 use Rattle.run_texts.specs.Told.{IsTold, unpaired_status, unpaired_text}
 use Rattle.sec_cli.specs.Texts.{trace_fault_text, cert_fault_text}
@@ -20,6 +21,7 @@ refusal_status refusals.ThirdFailed = 5
 refusal_status refusals.ThirdTooLong = 4
 refusal_status (refusals.TraceRefused f) = 4
 refusal_status (refusals.CertRefused f) = 4
+refusal_status (refusals.Unanswered u) = unanswered_status u
 
 abbrev pub refusal_text : List ℕ → List ℕ → List ℕ → Refusal → List ℕ
 refusal_text left right trace refusals.Memory = memory_text
@@ -28,6 +30,7 @@ refusal_text left right trace refusals.ThirdFailed = read_failed_text trace
 refusal_text left right trace refusals.ThirdTooLong = fault_text trace (fault kinds.Limit longest_third)
 refusal_text left right trace (refusals.TraceRefused f) = trace_fault_text trace f
 refusal_text left right trace (refusals.CertRefused f) = cert_fault_text trace f
+refusal_text left right trace (refusals.Unanswered u) = unanswered_text trace u
 
 abbrev pub told_of : Asked → Refusal → List ℕ
 told_of c r = refusal_text (left_name c) (right_name c) (third_name c) r

@@ -8,11 +8,12 @@ ghost use Rattle.sec_cli.specs.Answers.{is_refined};
 ghost use Rattle.run_texts.specs.Texts.{memory_text};
 ghost use Rattle.run_texts.specs.Told.{IsTold};
 ghost use Rattle.sec_cli.specs.Texts.{usage_text};
-ghost use Rattle.sec_cli.specs.Endings.{Ending, IsCheckEnding, IsReplayEnding, IsVerifyEnding, IsDemoEnding, IsClimbEnding, IsLoadEnding, HasJournal, journal_of, failed_names, left_name, right_name, third_name};
+ghost use Rattle.sec_cli.specs.Endings.{Ending, IsCheckEnding, IsReplayEnding, IsVerifyEnding, IsDemoEnding, IsClimbEnding, IsLoadEnding, IsAnswerStatus, HasJournal, journal_of, failed_names, left_name, right_name, third_name};
 ghost use Rattle.sec_cli.specs.Reports.{IsReport, refusal_status, told_of};
 ghost use Rattle.sec_cli.specs.OneAnswer.{IsOneAnswer};
-ghost use Rattle.sec_cli.specs.Runs.{Ended, IsAnswered, IsJournalOfWords, IsRefused, IsUnread, IsUnwritten};
+ghost use Rattle.sec_cli.specs.Runs.{Ended, IsAnswered, IsJournalOfWords, IsRefusedOrBatch, IsUnread, IsUnwritten};
 
+use crate::batching::batch_ending;
 use crate::checking::check_pair;
 use crate::climbing::climb_pair;
 use crate::delivering::deliver;
@@ -42,7 +43,7 @@ pub struct Report {
 }
 
 const USAGE: &str =
-    "usage: sec check LEFT RIGHT [-k K] [-d D] [-j J] [--classes] [--stats] [--trace FILE] [--cert FILE] [--tie] [--least]\n       sec replay LEFT RIGHT TRACE [--tie]\n       sec verify LEFT RIGHT CERT [--tie]\n       sec demo N [-k K] [-j J]\n       sec climb LEFT RIGHT [-m M] [-j J] [--least]\n";
+    "usage: sec check LEFT RIGHT [-k K] [-d D] [-j J] [--classes] [--stats] [--trace FILE] [--cert FILE] [--tie] [--least]\n       sec replay LEFT RIGHT TRACE [--tie]\n       sec verify LEFT RIGHT CERT [--tie]\n       sec demo N [-k K] [-j J]\n       sec climb LEFT RIGHT [-m M] [-j J] [--least]\n       sec batch LIST [-k K] [-j J]\n";
 
 // The answer of a check of two files.
 fn check_files<R: Threads + Wait + Sync, S: Shelf, G: Gate>(
@@ -180,7 +181,7 @@ fn decide<R: Threads + Wait + Sync, S: Shelf, G: Gate>(
 ) -> Result<Answer, Refusal>
     requires { IsWithin (asked_of command) }
     ensures ending { Ended S.tells (S.file shelf.old) (asked_of command.entry) result }
-    ensures status { IfOk result (λ a. a.status ≤ 2) }
+    ensures status { IfOk result (λ a. IsAnswerStatus (asked_of command.entry) a.status) }
     ensures journal { IfOk result (λ a. HasJournal (asked_of command.entry) a.status a.journal) }
     ensures failed { IsLoadEnding result → Rose (S.load_faults shelf.old) (S.load_faults shelf.new) }
     ensures files { S.file shelf.new ≡ S.file shelf.old }
@@ -194,14 +195,15 @@ fn decide<R: Threads + Wait + Sync, S: Shelf, G: Gate>(
         Command::Verify(c) => verify_files(alloc, shelf, c.left, c.right, c.cert, c.tied),
         Command::Demo(d) => demo_ending(rt, alloc, &d, gate),
         Command::Climb(c) => climb_files(rt, alloc, shelf, c.left, c.right, &c, gate),
-        Command::Reduce(_) | Command::Batch(_) => Err(Refusal::Memory),
+        Command::Reduce(_) => Err(Refusal::Memory),
+        Command::Batch(b) => batch_ending(rt, alloc, shelf, &b, gate),
     }
 }
 
 // Tells why a command answers nothing.
-fn refuse<E: Sink>(command: Command, refusal: Refusal, err: &mut E) -> u8
-    ensures status { result ≡ refusal_status refusal }
-    ensures told { IsTold (E.taken err.old) (E.faults err.old) (told_of (asked_of command.entry) refusal) (E.taken err.new) (E.faults err.new) }
+fn refuse<E: Sink>(command: Command, refusal: &Refusal, err: &mut E) -> u8
+    ensures status { result ≡ refusal_status refusal.now }
+    ensures told { IsTold (E.taken err.old) (E.faults err.old) (told_of (asked_of command.entry) refusal.now) (E.taken err.new) (E.faults err.new) }
     ensures count { E.faults err.old ≤ E.faults err.new }
 {
     match command {
@@ -223,8 +225,12 @@ fn refuse<E: Sink>(command: Command, refusal: Refusal, err: &mut E) -> u8
             tell_refusal(err, r.net, "", "", refusal);
             refusal_status(refusal)
         }
-        Command::Demo(_) | Command::Batch(_) => {
+        Command::Demo(_) => {
             tell_refusal(err, "", "", "", refusal);
+            refusal_status(refusal)
+        }
+        Command::Batch(b) => {
+            tell_refusal(err, "", "", b.list, refusal);
             refusal_status(refusal)
         }
         Command::Climb(c) => {
@@ -245,7 +251,7 @@ fn perform<R: Threads + Wait + Sync, S: Shelf, O: Sink, E: Sink, G: Gate>(
     gate: &G,
 ) -> Report
     requires { IsWithin (asked_of command) }
-    ensures reported { (e : Ending) × Ended S.tells (S.file shelf.old) (asked_of command.entry) e × IfOk e (λ a. a.status ≤ 2)
+    ensures reported { (e : Ending) × Ended S.tells (S.file shelf.old) (asked_of command.entry) e × IfOk e (λ a. IsAnswerStatus (asked_of command.entry) a.status)
         × IfOk e (λ a. HasJournal (asked_of command.entry) a.status a.journal) × (result.journal ≡ journal_of e)
         × (IsLoadEnding e → Rose (S.load_faults shelf.old) (S.load_faults shelf.new))
         × (S.failed shelf.new ≡ appended (S.failed shelf.old) (failed_names (left_name (asked_of command.entry)) (right_name (asked_of command.entry)) (third_name (asked_of command.entry)) e))
@@ -264,7 +270,7 @@ fn perform<R: Threads + Wait + Sync, S: Shelf, O: Sink, E: Sink, G: Gate>(
             Report { status, journal }
         }
         Err(refusal) => {
-            let status = refuse(command, refusal, err);
+            let status = refuse(command, &refusal, err);
             Report {
                 status,
                 journal: None,
@@ -275,12 +281,14 @@ fn perform<R: Threads + Wait + Sync, S: Shelf, O: Sink, E: Sink, G: Gate>(
 
 /// One run of the program over these words, of which the first is its own name: `check LEFT RIGHT [-k K] [-d D] [-j J]
 /// [--classes] [--stats] [--trace FILE] [--cert FILE] [--tie] [--least]`, `replay LEFT RIGHT TRACE [--tie]`,
-/// `verify LEFT RIGHT CERT [--tie]`, `demo N [-k K] [-j J]` or `climb LEFT RIGHT [-m M] [-j J] [--least]`.
+/// `verify LEFT RIGHT CERT [--tie]`, `demo N [-k K] [-j J]`, `climb LEFT RIGHT [-m M] [-j J] [--least]` or
+/// `batch LIST [-k K] [-j J]`.
 /// `check` decides by signal correspondence with k-induction (van Eijk, IEEE TCAD 19(7), 2000; Sheeran, Singh, Stålmarck,
 /// FMCAD 2000), and where that leaves outputs unpaired by a search for a difference in the first k frames, or the first D where
 /// these are more; `replay` tells the first difference of a stored trace;
 /// `verify` reads a stored certificate, without solver or threads; `demo` checks a pair of any size that it makes itself; `climb`
-/// checks with induction over 1, 2, .. frames, up to the first that decides, or to M.
+/// checks with induction over 1, 2, .. frames, up to the first that decides, or to M; `batch` checks the pairs of
+/// files that LIST names, on J workers, and prints a line for each, in the list's order.
 /// `check`, `demo` and `climb` refine the classes by J workers, in threads that `rt` starts; they may wait for one another, and the
 /// gate may hold them. The verdict and the classes are the same however they go on; with `--least` so is the trace of a difference.
 /// With `--tie` the free latches of both netlists start equal, in their order.
@@ -311,8 +319,8 @@ pub fn run<R: Threads + Wait + Sync, S: Shelf, O: Sink, E: Sink, G: Gate>(
         (record { files = S.file shelf.old; store_faults = S.store_faults shelf.old; out = O.taken out.old; out_faults = O.faults out.old; err = E.taken err.old; err_faults = E.faults err.old })
         (record { files = S.file shelf.new; store_faults = S.store_faults shelf.new; out = O.taken out.new; out_faults = O.faults out.new; err = E.taken err.new; err_faults = E.faults err.new })) }
 
-    // A refusal is true of the files, and told.
-    ensures refused { result.status ≡ 4 → IsSomeAnd (meant (texts words.now)) (λ c. IsRefused S.tells c
+    // A refusal is true of the files, and told, and nothing is printed. A batch answers 4 too, where a pair of its list has no product.
+    ensures refused { result.status ≡ 4 → IsSomeAnd (meant (texts words.now)) (λ c. IsRefusedOrBatch S.tells c result.journal
         (record { files = S.file shelf.old; store_faults = S.store_faults shelf.old; out = O.taken out.old; out_faults = O.faults out.old; err = E.taken err.old; err_faults = E.faults err.old })
         (record { files = S.file shelf.new; store_faults = S.store_faults shelf.new; out = O.taken out.new; out_faults = O.faults out.new; err = E.taken err.new; err_faults = E.faults err.new })) }
 
@@ -331,7 +339,7 @@ pub fn run<R: Threads + Wait + Sync, S: Shelf, O: Sink, E: Sink, G: Gate>(
     ensures last_journal { result.status ≡ 7 → IsJournalOfWords S.tells (S.file shelf.old) (meant (texts words.now)) result.journal }
 
     // What else stays.
-    ensures out_stays { 3 ≤ result.status → result.status ≢ 6 → O.taken out.new ≡ O.taken out.old }
+    ensures out_stays { 3 ≤ result.status → result.status ≢ 4 → result.status ≢ 6 → O.taken out.new ≡ O.taken out.old }
     ensures err_stays { result.status ≤ 2 → E.taken err.new ≡ E.taken err.old }
     ensures names { result.status ≢ 5 → S.failed shelf.new ≡ S.failed shelf.old }
     ensures files { 2 ≤ result.status → result.status ≢ 6 → S.file shelf.new ≡ S.file shelf.old }
