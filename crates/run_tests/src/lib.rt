@@ -3,6 +3,10 @@
 #![tactic(auto)]
 
 #[cfg(test)]
+mod batches;
+#[cfg(test)]
+mod climbs;
+#[cfg(test)]
 mod demos;
 #[cfg(test)]
 mod devices;

@@ -1,3 +1,4 @@
+pub mod Depths
 pub mod Concluding
 pub mod OneAnswer
 pub mod SameLines

@@ -1,6 +1,7 @@
 pub mod Stats
 pub mod Texts
 pub mod Answers
+pub mod Climbs
 pub mod Endings
 pub mod Reports
 pub mod Runs

@@ -6,8 +6,9 @@ use Rattle.aiger_codec.specs.declared.fault.NetKind.TheVariants as kinds
 use Rattle.sec_cli.specs.declared.ending.Answer.{Answer}
 use Rattle.sec_cli.specs.declared.ending.Refusal.{Refusal}
 use Rattle.sec_cli.specs.declared.ending.Refusal.TheVariants as refusals
-use Rattle.command_line.specs.Asked.{Asked, ForCheck, ForReplay, ForVerify, ForDemo}
+use Rattle.command_line.specs.Asked.{Asked, ForCheck, ForReplay, ForVerify, ForDemo, ForClimb, ForReduce, ForBatch}
 use Rattle.sec_cli.specs.Endings.{Ending, longest_third, left_name, right_name, third_name}
+use Rattle.batch_run.specs.Endings.{unanswered_status, unanswered_text}
 use Rattle.run_texts.specs.Texts.{fault_text, read_failed_text, store_failed_text, write_failed_text, memory_text}
 use Rattle.run_texts.specs.Told.{IsTold, unpaired_status, unpaired_text}
 use Rattle.sec_cli.specs.Texts.{trace_fault_text, cert_fault_text}
@@ -20,6 +21,7 @@ refusal_status refusals.ThirdFailed = 5
 refusal_status refusals.ThirdTooLong = 4
 refusal_status (refusals.TraceRefused f) = 4
 refusal_status (refusals.CertRefused f) = 4
+refusal_status (refusals.Unanswered u) = unanswered_status u
 
 abbrev pub refusal_text : List ℕ → List ℕ → List ℕ → Refusal → List ℕ
 refusal_text left right trace refusals.Memory = memory_text
@@ -28,6 +30,7 @@ refusal_text left right trace refusals.ThirdFailed = read_failed_text trace
 refusal_text left right trace refusals.ThirdTooLong = fault_text trace (fault kinds.Limit longest_third)
 refusal_text left right trace (refusals.TraceRefused f) = trace_fault_text trace f
 refusal_text left right trace (refusals.CertRefused f) = cert_fault_text trace f
+refusal_text left right trace (refusals.Unanswered u) = unanswered_text trace u
 
 abbrev pub told_of : Asked → Refusal → List ℕ
 told_of c r = refusal_text (left_name c) (right_name c) (third_name c) r
@@ -38,6 +41,9 @@ store_name (ForCheck c) status = if status == 1 then c.trace else if status == 0
 store_name (ForReplay c) status = None
 store_name (ForVerify c) status = None
 store_name (ForDemo d) status = None
+store_name (ForClimb c) status = None
+store_name (ForReduce r) status = None
+store_name (ForBatch b) status = None
 
 -- all files but this one stay
 abbrev pub OthersStay : (List ℕ → Option (List ℕ)) → (List ℕ → Option (List ℕ)) → List ℕ → Type 0

@@ -1,26 +1,28 @@
 // One run: its words, its files, and what is written of it.
 ghost use Rattle.std.specs.Prelude.{◌≡◌, ◌≢◌, ◌≤◌, ◌<◌, ◌⊎◌, ℕ, List, [], ◌∷◌, IsTrue, IsSomeAnd, MatchBool, None, is_some, IfOk};
 ghost use Rattle.sec_base.specs.Faults.{Rose, appended};
-ghost use Rattle.command_line.specs.Asked.{asked_of, check_asked, IsCheckWithin, IsDemoWithin, IsWithin};
+ghost use Rattle.command_line.specs.Asked.{Asked, ForClimb, asked_of, check_asked, climb_asked, IsCheckWithin, IsClimbWithin, IsDemoWithin, IsWithin};
 ghost use Rattle.command_line.specs.Meant.{meant, AreNoCommand};
 ghost use Rattle.command_line.specs.Plain.{texts};
 ghost use Rattle.sec_cli.specs.Answers.{is_refined};
 ghost use Rattle.run_texts.specs.Texts.{memory_text};
 ghost use Rattle.run_texts.specs.Told.{IsTold};
 ghost use Rattle.sec_cli.specs.Texts.{usage_text};
-ghost use Rattle.sec_cli.specs.Endings.{Ending, IsCheckEnding, IsReplayEnding, IsVerifyEnding, IsDemoEnding, IsLoadEnding, refines, journal_of, failed_names, left_name, right_name, third_name};
+ghost use Rattle.sec_cli.specs.Endings.{Ending, IsCheckEnding, IsReplayEnding, IsVerifyEnding, IsDemoEnding, IsClimbEnding, IsLoadEnding, IsAnswerStatus, HasJournal, journal_of, failed_names, left_name, right_name, third_name};
 ghost use Rattle.sec_cli.specs.Reports.{IsReport, refusal_status, told_of};
 ghost use Rattle.sec_cli.specs.OneAnswer.{IsOneAnswer};
-ghost use Rattle.sec_cli.specs.Runs.{Ended, IsAnswered, IsJournalOfWords, IsRefused, IsUnread, IsUnwritten};
+ghost use Rattle.sec_cli.specs.Runs.{Ended, IsAnswered, IsJournalOfWords, IsRefusedOrBatch, IsUnread, IsUnwritten};
 
+use crate::batching::batch_ending;
 use crate::checking::check_pair;
+use crate::climbing::climb_pair;
 use crate::delivering::deliver;
 use crate::demo::demo_answer;
 use crate::ending::{Answer, Refusal};
 use crate::replaying::replay;
 use crate::telling::{refusal_status, tell_refusal};
 use crate::verifying::verify_file;
-use command_line::{Check, Command, Demo, Unread, read_words};
+use command_line::{Check, Climb, Command, Demo, Unread, read_words};
 use pair_files::load_pair;
 use refine_board::Journal;
 use run_texts::tell;
@@ -34,13 +36,14 @@ use std::thread::Threads;
 #[derive(Drop)]
 pub struct Report {
     pub status: u8,
-    /// The journal of the refinement, with 0 and 2 of `check` and `demo`, and with 6 where their verdict isn't a difference.
-    /// With 7 it may be there, where the file of such a verdict found no memory.
+    /// The journal of the refinement, with 0 and 2 of `check` and `demo`, and with 6 where their verdict isn't a difference; of
+    /// `climb` that of the last refinement, with a difference too where there was one before it. With 7 it may be there, where the
+    /// file of such a verdict found no memory.
     pub journal: Option<Journal>,
 }
 
 const USAGE: &str =
-    "usage: sec check LEFT RIGHT [-k K] [-d D] [-j J] [--classes] [--stats] [--trace FILE] [--cert FILE] [--tie] [--least]\n       sec replay LEFT RIGHT TRACE [--tie]\n       sec verify LEFT RIGHT CERT [--tie]\n       sec demo N [-k K] [-j J]\n";
+    "usage: sec check LEFT RIGHT [-k K] [-d D] [-j J] [--classes] [--stats] [--trace FILE] [--cert FILE] [--tie] [--least]\n       sec replay LEFT RIGHT TRACE [--tie]\n       sec verify LEFT RIGHT CERT [--tie]\n       sec demo N [-k K] [-j J]\n       sec climb LEFT RIGHT [-m M] [-j J] [--least]\n       sec batch LIST [-k K] [-j J]\n";
 
 // The answer of a check of two files.
 fn check_files<R: Threads + Wait + Sync, S: Shelf, G: Gate>(
@@ -139,6 +142,35 @@ fn demo_ending<R: Threads + Wait + Sync, G: Gate>(
     }
 }
 
+// The answer of a climb over two files.
+fn climb_files<R: Threads + Wait + Sync, S: Shelf, G: Gate>(
+    rt: &R,
+    alloc: Global,
+    shelf: &mut S,
+    left: &str,
+    right: &str,
+    c: &Climb,
+    gate: &G,
+) -> Result<Answer, Refusal>
+    requires { IsClimbWithin (climb_asked c.now) }
+    ensures ending { IsTrue S.tells → IsClimbEnding (S.file shelf.old left.now) (S.file shelf.old right.now) (climb_asked c.now) result }
+    ensures status { IfOk result (λ a. a.status ≤ 2) }
+    ensures journal { IfOk result (λ a. HasJournal (ForClimb (climb_asked c.now)) a.status a.journal) }
+    ensures failed { IsLoadEnding result → Rose (S.load_faults shelf.old) (S.load_faults shelf.new) }
+    ensures files { S.file shelf.new ≡ S.file shelf.old }
+    ensures names { S.failed shelf.new ≡ appended (S.failed shelf.old) (failed_names left.now right.now [] result) }
+    ensures load_count { S.load_faults shelf.old ≤ S.load_faults shelf.new }
+    ensures store_count { S.store_faults shelf.new ≡ S.store_faults shelf.old }
+{
+    match load_pair(alloc, shelf, left, right, false) {
+        Err(unpaired) => Err(Refusal::Unpaired(unpaired)),
+        Ok(product) => match climb_pair(rt, alloc, &product, c, gate) {
+            Ok(answer) => Ok(answer),
+            Err(_) => Err(Refusal::Memory),
+        },
+    }
+}
+
 // The answer of a command.
 fn decide<R: Threads + Wait + Sync, S: Shelf, G: Gate>(
     rt: &R,
@@ -149,8 +181,8 @@ fn decide<R: Threads + Wait + Sync, S: Shelf, G: Gate>(
 ) -> Result<Answer, Refusal>
     requires { IsWithin (asked_of command) }
     ensures ending { Ended S.tells (S.file shelf.old) (asked_of command.entry) result }
-    ensures status { IfOk result (λ a. a.status ≤ 2) }
-    ensures journal { IfOk result (λ a. is_some a.journal ≡ refines (asked_of command.entry) a.status) }
+    ensures status { IfOk result (λ a. IsAnswerStatus (asked_of command.entry) a.status) }
+    ensures journal { IfOk result (λ a. HasJournal (asked_of command.entry) a.status a.journal) }
     ensures failed { IsLoadEnding result → Rose (S.load_faults shelf.old) (S.load_faults shelf.new) }
     ensures files { S.file shelf.new ≡ S.file shelf.old }
     ensures names { S.failed shelf.new ≡ appended (S.failed shelf.old) (failed_names (left_name (asked_of command.entry)) (right_name (asked_of command.entry)) (third_name (asked_of command.entry)) result) }
@@ -162,13 +194,16 @@ fn decide<R: Threads + Wait + Sync, S: Shelf, G: Gate>(
         Command::Replay(c) => replay_files(alloc, shelf, c.left, c.right, c.trace, c.tied),
         Command::Verify(c) => verify_files(alloc, shelf, c.left, c.right, c.cert, c.tied),
         Command::Demo(d) => demo_ending(rt, alloc, &d, gate),
+        Command::Climb(c) => climb_files(rt, alloc, shelf, c.left, c.right, &c, gate),
+        Command::Reduce(_) => Err(Refusal::Memory),
+        Command::Batch(b) => batch_ending(rt, alloc, shelf, &b, gate),
     }
 }
 
 // Tells why a command answers nothing.
-fn refuse<E: Sink>(command: Command, refusal: Refusal, err: &mut E) -> u8
-    ensures status { result ≡ refusal_status refusal }
-    ensures told { IsTold (E.taken err.old) (E.faults err.old) (told_of (asked_of command.entry) refusal) (E.taken err.new) (E.faults err.new) }
+fn refuse<E: Sink>(command: Command, refusal: &Refusal, err: &mut E) -> u8
+    ensures status { result ≡ refusal_status refusal.now }
+    ensures told { IsTold (E.taken err.old) (E.faults err.old) (told_of (asked_of command.entry) refusal.now) (E.taken err.new) (E.faults err.new) }
     ensures count { E.faults err.old ≤ E.faults err.new }
 {
     match command {
@@ -186,8 +221,20 @@ fn refuse<E: Sink>(command: Command, refusal: Refusal, err: &mut E) -> u8
             tell_refusal(err, c.left, c.right, cert, refusal);
             refusal_status(refusal)
         }
+        Command::Reduce(r) => {
+            tell_refusal(err, r.net, "", "", refusal);
+            refusal_status(refusal)
+        }
         Command::Demo(_) => {
             tell_refusal(err, "", "", "", refusal);
+            refusal_status(refusal)
+        }
+        Command::Batch(b) => {
+            tell_refusal(err, "", "", b.list, refusal);
+            refusal_status(refusal)
+        }
+        Command::Climb(c) => {
+            tell_refusal(err, c.left, c.right, "", refusal);
             refusal_status(refusal)
         }
     }
@@ -204,8 +251,8 @@ fn perform<R: Threads + Wait + Sync, S: Shelf, O: Sink, E: Sink, G: Gate>(
     gate: &G,
 ) -> Report
     requires { IsWithin (asked_of command) }
-    ensures reported { (e : Ending) × Ended S.tells (S.file shelf.old) (asked_of command.entry) e × IfOk e (λ a. a.status ≤ 2)
-        × IfOk e (λ a. is_some a.journal ≡ refines (asked_of command.entry) a.status) × (result.journal ≡ journal_of e)
+    ensures reported { (e : Ending) × Ended S.tells (S.file shelf.old) (asked_of command.entry) e × IfOk e (λ a. IsAnswerStatus (asked_of command.entry) a.status)
+        × IfOk e (λ a. HasJournal (asked_of command.entry) a.status a.journal) × (result.journal ≡ journal_of e)
         × (IsLoadEnding e → Rose (S.load_faults shelf.old) (S.load_faults shelf.new))
         × (S.failed shelf.new ≡ appended (S.failed shelf.old) (failed_names (left_name (asked_of command.entry)) (right_name (asked_of command.entry)) (third_name (asked_of command.entry)) e))
         × IsReport S.tells (asked_of command.entry) e
@@ -223,7 +270,7 @@ fn perform<R: Threads + Wait + Sync, S: Shelf, O: Sink, E: Sink, G: Gate>(
             Report { status, journal }
         }
         Err(refusal) => {
-            let status = refuse(command, refusal, err);
+            let status = refuse(command, &refusal, err);
             Report {
                 status,
                 journal: None,
@@ -234,12 +281,15 @@ fn perform<R: Threads + Wait + Sync, S: Shelf, O: Sink, E: Sink, G: Gate>(
 
 /// One run of the program over these words, of which the first is its own name: `check LEFT RIGHT [-k K] [-d D] [-j J]
 /// [--classes] [--stats] [--trace FILE] [--cert FILE] [--tie] [--least]`, `replay LEFT RIGHT TRACE [--tie]`,
-/// `verify LEFT RIGHT CERT [--tie]` or `demo N [-k K] [-j J]`.
+/// `verify LEFT RIGHT CERT [--tie]`, `demo N [-k K] [-j J]`, `climb LEFT RIGHT [-m M] [-j J] [--least]` or
+/// `batch LIST [-k K] [-j J]`.
 /// `check` decides by signal correspondence with k-induction (van Eijk, IEEE TCAD 19(7), 2000; Sheeran, Singh, Stålmarck,
 /// FMCAD 2000), and where that leaves outputs unpaired by a search for a difference in the first k frames, or the first D where
 /// these are more; `replay` tells the first difference of a stored trace;
-/// `verify` reads a stored certificate, without solver or threads; `demo` checks a pair of any size that it makes itself.
-/// `check` and `demo` refine the classes by J workers, in threads that `rt` starts; they may wait for one another, and the
+/// `verify` reads a stored certificate, without solver or threads; `demo` checks a pair of any size that it makes itself; `climb`
+/// checks with induction over 1, 2, .. frames, up to the first that decides, or to M; `batch` checks the pairs of
+/// files that LIST names, on J workers, and prints a line for each, in the list's order.
+/// `check`, `demo` and `climb` refine the classes by J workers, in threads that `rt` starts; they may wait for one another, and the
 /// gate may hold them. The verdict and the classes are the same however they go on; with `--least` so is the trace of a difference.
 /// With `--tie` the free latches of both netlists start equal, in their order.
 pub fn run<R: Threads + Wait + Sync, S: Shelf, O: Sink, E: Sink, G: Gate>(
@@ -263,14 +313,14 @@ pub fn run<R: Threads + Wait + Sync, S: Shelf, O: Sink, E: Sink, G: Gate>(
         (record { files = S.file shelf.old; store_faults = S.store_faults shelf.old; out = O.taken out.old; out_faults = O.faults out.old; err = E.taken err.old; err_faults = E.faults err.old })
         (record { files = S.file shelf.new; store_faults = S.store_faults shelf.new; out = O.taken out.new; out_faults = O.faults out.new; err = E.taken err.new; err_faults = E.faults err.new })) }
 
-    // With `--least` and without `--stats` it is the only answer: what is printed, and the trace that is stored, are one function of
+    // With `--least`, and without `--stats`, it is the only answer: what is printed, and the trace that is stored, are one function of
     // the files and the words.
     ensures one_answer { result.status ≤ 2 → IsSomeAnd (meant (texts words.now)) (λ c. IsOneAnswer S.tells c result.status
         (record { files = S.file shelf.old; store_faults = S.store_faults shelf.old; out = O.taken out.old; out_faults = O.faults out.old; err = E.taken err.old; err_faults = E.faults err.old })
         (record { files = S.file shelf.new; store_faults = S.store_faults shelf.new; out = O.taken out.new; out_faults = O.faults out.new; err = E.taken err.new; err_faults = E.faults err.new })) }
 
-    // A refusal is true of the files, and told.
-    ensures refused { result.status ≡ 4 → IsSomeAnd (meant (texts words.now)) (λ c. IsRefused S.tells c
+    // A refusal is true of the files, and told, and nothing is printed. A batch answers 4 too, where a pair of its list has no product.
+    ensures refused { result.status ≡ 4 → IsSomeAnd (meant (texts words.now)) (λ c. IsRefusedOrBatch S.tells c result.journal
         (record { files = S.file shelf.old; store_faults = S.store_faults shelf.old; out = O.taken out.old; out_faults = O.faults out.old; err = E.taken err.old; err_faults = E.faults err.old })
         (record { files = S.file shelf.new; store_faults = S.store_faults shelf.new; out = O.taken out.new; out_faults = O.faults out.new; err = E.taken err.new; err_faults = E.faults err.new })) }
 
@@ -289,7 +339,7 @@ pub fn run<R: Threads + Wait + Sync, S: Shelf, O: Sink, E: Sink, G: Gate>(
     ensures last_journal { result.status ≡ 7 → IsJournalOfWords S.tells (S.file shelf.old) (meant (texts words.now)) result.journal }
 
     // What else stays.
-    ensures out_stays { 3 ≤ result.status → result.status ≢ 6 → O.taken out.new ≡ O.taken out.old }
+    ensures out_stays { 3 ≤ result.status → result.status ≢ 4 → result.status ≢ 6 → O.taken out.new ≡ O.taken out.old }
     ensures err_stays { result.status ≤ 2 → E.taken err.new ≡ E.taken err.old }
     ensures names { result.status ≢ 5 → S.failed shelf.new ≡ S.failed shelf.old }
     ensures files { 2 ≤ result.status → result.status ≢ 6 → S.file shelf.new ≡ S.file shelf.old }

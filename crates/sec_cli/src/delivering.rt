@@ -13,7 +13,6 @@ use sec_base::{Failed, Shelf, Sink, StoreFault, write_text};
 
 // Prints a text, and answers the status, or 6 where that fails.
 fn print<O: Sink, E: Sink>(text: &[u8], status: u8, out: &mut O, err: &mut E) -> u8
-    requires { status ≤ 2 }
     ensures done { ((result ≡ status) × (O.taken out.new ≡ appended (O.taken out.old) text.now) × (E.taken err.new ≡ E.taken err.old))
         ⊎ ((result ≡ 6) × Rose (O.faults out.old) (O.faults out.new) × IsCutShort (O.taken out.old) text.now (O.taken out.new)
         × IsTold (E.taken err.old) (E.faults err.old) write_failed_text (E.taken err.new) (E.faults err.new)) }
@@ -37,7 +36,6 @@ fn store_and_print<S: Shelf, O: Sink, E: Sink>(
     out: &mut O,
     err: &mut E,
 ) -> u8
-    requires { answer.now.status ≤ 2 }
     ensures delivered { IsDelivery S.tells (Some name.now) answer.now
         (record { files = S.file shelf.old; store_faults = S.store_faults shelf.old; out = O.taken out.old; out_faults = O.faults out.old; err = E.taken err.old; err_faults = E.faults err.old })
         (record { files = S.file shelf.new; store_faults = S.store_faults shelf.new; out = O.taken out.new; out_faults = O.faults out.new; err = E.taken err.new; err_faults = E.faults err.new }) result }
@@ -74,7 +72,12 @@ fn store_name<'w>(command: Command<'w>, status: u8) -> Option<&'w str>
                 None
             }
         }
-        Command::Replay(_) | Command::Verify(_) | Command::Demo(_) => None,
+        Command::Replay(_)
+        | Command::Verify(_)
+        | Command::Demo(_)
+        | Command::Climb(_)
+        | Command::Reduce(_)
+        | Command::Batch(_) => None,
     }
 }
 
@@ -86,7 +89,6 @@ pub(crate) fn deliver<S: Shelf, O: Sink, E: Sink>(
     out: &mut O,
     err: &mut E,
 ) -> u8
-    requires { answer.now.status ≤ 2 }
     ensures delivered { IsDelivery S.tells (store_name (asked_of command.entry) answer.now.status) answer.now
         (record { files = S.file shelf.old; store_faults = S.store_faults shelf.old; out = O.taken out.old; out_faults = O.faults out.old; err = E.taken err.old; err_faults = E.faults err.old })
         (record { files = S.file shelf.new; store_faults = S.store_faults shelf.new; out = O.taken out.new; out_faults = O.faults out.new; err = E.taken err.new; err_faults = E.faults err.new }) result }

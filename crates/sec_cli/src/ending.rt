@@ -1,4 +1,5 @@
 //! How a command ends: with an answer, or with why there is none.
+use batch_run::Unanswered;
 use corr_certificate::CertFault;
 use pair_files::Unpaired;
 use refine_board::Journal;
@@ -17,7 +18,7 @@ pub struct Answer {
 }
 
 /// Why a run answers nothing.
-#[derive(Clone, Copy, Debug, PartialEq, Eq)]
+#[derive(Debug, Drop)]
 pub enum Refusal {
     /// There was no memory.
     Memory,
@@ -31,4 +32,6 @@ pub enum Refusal {
     TraceRefused(TraceFault),
     /// The certificate has this first fault.
     CertRefused(CertFault),
+    /// There are no answers of a list's pairs.
+    Unanswered(Unanswered),
 }

@@ -1,7 +1,9 @@
 //! The program `sec` but for its `main`: the commands, their answers, and what becomes of them.
 #![tactic(auto)]
 
+mod batching;
 mod checking;
+mod climbing;
 mod command;
 mod counting;
 mod delivering;

@@ -6,6 +6,7 @@ ghost use Rattle.sec_cli.specs.Reports.{refusal_status, refusal_text};
 
 use crate::ending::Refusal;
 use aiger_codec::{NetFault, NetKind};
+use batch_run::{tell_unanswered, unanswered_status};
 use corr_certificate::{CertFault, CertKind};
 use run_texts::{tell, tell_fault, tell_line_fault, tell_unpaired, tell_unread, unpaired_status};
 use sec_base::Sink;
@@ -53,14 +54,14 @@ pub(crate) fn tell_refusal<E: Sink>(
     left: &str,
     right: &str,
     third: &str,
-    refusal: Refusal,
+    refusal: &Refusal,
 )
-    ensures told { IsTold (E.taken err.old) (E.faults err.old) (refusal_text left.now right.now third.now refusal) (E.taken err.new) (E.faults err.new) }
+    ensures told { IsTold (E.taken err.old) (E.faults err.old) (refusal_text left.now right.now third.now refusal.now) (E.taken err.new) (E.faults err.new) }
     ensures count { E.faults err.old ≤ E.faults err.new }
 {
     match refusal {
         Refusal::Memory => tell(err, b"sec: out of memory\n"),
-        Refusal::Unpaired(unpaired) => tell_unpaired(err, left, right, unpaired),
+        Refusal::Unpaired(unpaired) => tell_unpaired(err, left, right, *unpaired),
         Refusal::ThirdFailed => tell_unread(err, third.as_bytes()),
         Refusal::ThirdTooLong => {
             let fault = NetFault {
@@ -69,18 +70,20 @@ pub(crate) fn tell_refusal<E: Sink>(
             };
             tell_fault(err, third.as_bytes(), fault)
         }
-        Refusal::TraceRefused(fault) => tell_trace_fault(err, third.as_bytes(), fault),
-        Refusal::CertRefused(fault) => tell_cert_fault(err, third.as_bytes(), fault),
+        Refusal::TraceRefused(fault) => tell_trace_fault(err, third.as_bytes(), *fault),
+        Refusal::CertRefused(fault) => tell_cert_fault(err, third.as_bytes(), *fault),
+        Refusal::Unanswered(unanswered) => tell_unanswered(err, third, unanswered),
     }
 }
 
 /// The status of a run that answers nothing.
-pub(crate) fn refusal_status(refusal: Refusal) -> u8
-    ensures { result ≡ refusal_status refusal }
+pub(crate) fn refusal_status(refusal: &Refusal) -> u8
+    ensures { result ≡ refusal_status refusal.now }
 {
     match refusal {
         Refusal::Memory => 7,
-        Refusal::Unpaired(unpaired) => unpaired_status(unpaired),
+        Refusal::Unpaired(unpaired) => unpaired_status(*unpaired),
+        Refusal::Unanswered(unanswered) => unanswered_status(unanswered),
         Refusal::ThirdFailed => 5,
         Refusal::ThirdTooLong | Refusal::TraceRefused(_) | Refusal::CertRefused(_) => 4,
     }
