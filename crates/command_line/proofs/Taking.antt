@@ -9,16 +9,16 @@ use Rattle.clap.specs.declared.parser.matches.ArgMatches.{ArgMatches}
 use Rattle.command_line.specs.declared.command.Command.{Command}
 use Rattle.command_line.specs.Asked.{Asked, asked_of}
 use Rattle.command_line.specs.Meant.{are_none, is_taken, matched, taken_command}
-use Rattle.command_line.specs.App.{sec_app, check_app, replay_app, verify_app, demo_app}
+use Rattle.command_line.specs.App.{sec_app, check_app, replay_app, verify_app, demo_app, climb_app, reduce_app, batch_app}
 use Rattle.command_line.proofs.Leaves.{taken_asks}
 
 -- the command has only what clap's own definitions speak of
 pub is_simple_command : is_simple_and_free sec_app ≡ true
-unfolding clap_on_literals sec_app check_app replay_app verify_app demo_app
+unfolding clap_on_literals sec_app check_app replay_app verify_app demo_app climb_app reduce_app batch_app
 is_simple_command = refl
 
 pub is_plain_command : is_simple sec_app ≡ true
-unfolding clap_on_literals sec_app check_app replay_app verify_app demo_app
+unfolding clap_on_literals sec_app check_app replay_app verify_app demo_app climb_app reduce_app batch_app
 is_plain_command = refl
 
 -- a parse that ends well has the matches of the command, which has no fault at the words

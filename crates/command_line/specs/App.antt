@@ -55,6 +55,9 @@ depth = number (codes "k") 107 most_depth (codes "1" ∷ [])
 abbrev pub search_depth : Argument
 search_depth = number (codes "d") 100 most_search_depth []
 
+abbrev pub most : Argument
+most = number (codes "m") 109 most_depth []
+
 abbrev pub workers : Argument
 workers = number (codes "j") 106 most_workers (codes "1" ∷ [])
 
@@ -73,6 +76,15 @@ verify_line = record { command = codes "verify"; names = name (codes "LEFT") ∷
 
 abbrev pub demo_line : Line
 demo_line = record { command = codes "demo"; names = size ∷ []; options = depth ∷ workers ∷ [] }
+
+abbrev pub climb_line : Line
+climb_line = record { command = codes "climb"; names = name (codes "LEFT") ∷ name (codes "RIGHT") ∷ []; options = most ∷ workers ∷ flag (codes "least") ∷ [] }
+
+abbrev pub reduce_line : Line
+reduce_line = record { command = codes "reduce"; names = name (codes "NET") ∷ name (codes "OUT") ∷ []; options = depth ∷ workers ∷ flag (codes "binary") ∷ [] }
+
+abbrev pub batch_line : Line
+batch_line = record { command = codes "batch"; names = name (codes "LIST") ∷ []; options = depth ∷ workers ∷ [] }
 
 -- ---- the command for clap
 
@@ -114,11 +126,20 @@ verify_app = app_for verify_line
 unfoldable pub demo_app : App
 demo_app = app_for demo_line
 
+unfoldable pub climb_app : App
+climb_app = app_for climb_line
+
+unfoldable pub reduce_app : App
+reduce_app = app_for reduce_line
+
+unfoldable pub batch_app : App
+batch_app = app_for batch_line
+
 abbrev pub with_required_subcommand : App → App
 with_required_subcommand a = on_top (λ (s : Shape). record s { subcommand_required = true }) a
 
 unfoldable pub sec_app : App
-sec_app = with_subcommand (with_subcommand (with_subcommand (with_subcommand (with_required_subcommand (new_app (codes "sec"))) check_app.top) replay_app.top) verify_app.top) demo_app.top
+sec_app = with_subcommand (with_subcommand (with_subcommand (with_subcommand (with_subcommand (with_subcommand (with_subcommand (with_required_subcommand (new_app (codes "sec"))) check_app.top) replay_app.top) verify_app.top) demo_app.top) climb_app.top) reduce_app.top) batch_app.top
 
 -- a command is this one
 pub record IsCommand (app : App) (c : Command) : Type 0 where

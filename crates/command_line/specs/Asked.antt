@@ -4,6 +4,9 @@ use Rattle.command_line.specs.declared.command.Check.{Check}
 use Rattle.command_line.specs.declared.command.Replay.{Replay}
 use Rattle.command_line.specs.declared.command.Verify.{Verify}
 use Rattle.command_line.specs.declared.command.Demo.{Demo}
+use Rattle.command_line.specs.declared.command.Climb.{Climb}
+use Rattle.command_line.specs.declared.command.Reduce.{Reduce}
+use Rattle.command_line.specs.declared.command.Batch.{Batch}
 use Rattle.command_line.specs.declared.command.Command.{Command}
 use Rattle.command_line.specs.declared.command.Command.TheVariants as commands
 
@@ -32,11 +35,33 @@ pub record VerifyAsked : Type 0 where
   pub cert : List ℕ
   pub tied : Bool
 
+pub record ClimbAsked : Type 0 where
+  pub left : List ℕ
+  pub right : List ℕ
+  pub most : ℕ
+  pub workers : ℕ
+  pub least : Bool
+
+pub record ReduceAsked : Type 0 where
+  pub net : List ℕ
+  pub out : List ℕ
+  pub k : ℕ
+  pub workers : ℕ
+  pub binary : Bool
+
+pub record BatchAsked : Type 0 where
+  pub list : List ℕ
+  pub k : ℕ
+  pub workers : ℕ
+
 pub data Asked : Type 0 where
   ForCheck : CheckAsked → Asked
   ForReplay : ReplayAsked → Asked
   ForVerify : VerifyAsked → Asked
   ForDemo : Demo → Asked
+  ForClimb : ClimbAsked → Asked
+  ForReduce : ReduceAsked → Asked
+  ForBatch : BatchAsked → Asked
 
 abbrev pub check_asked : Check → CheckAsked
 check_asked c = record { left = c.left.now; right = c.right.now; k = c.k; depth = c.depth; workers = c.workers; classes = c.classes; stats = c.stats; trace = option_map (λ n. n.now) c.trace; cert = option_map (λ n. n.now) c.cert; tied = c.tied; least = c.least }
@@ -47,12 +72,24 @@ replay_asked c = record { left = c.left.now; right = c.right.now; trace = c.trac
 abbrev pub verify_asked : Verify → VerifyAsked
 verify_asked c = record { left = c.left.now; right = c.right.now; cert = c.cert.now; tied = c.tied }
 
+abbrev pub climb_asked : Climb → ClimbAsked
+climb_asked c = record { left = c.left.now; right = c.right.now; most = c.most; workers = c.workers; least = c.least }
+
+abbrev pub reduce_asked : Reduce → ReduceAsked
+reduce_asked r = record { net = r.net.now; out = r.out.now; k = r.k; workers = r.workers; binary = r.binary }
+
+abbrev pub batch_asked : Batch → BatchAsked
+batch_asked b = record { list = b.list.now; k = b.k; workers = b.workers }
+
 -- what a command asks for
 abbrev pub asked_of : Command → Asked
 asked_of (commands.Check c) = ForCheck (check_asked c)
 asked_of (commands.Replay c) = ForReplay (replay_asked c)
 asked_of (commands.Verify c) = ForVerify (verify_asked c)
 asked_of (commands.Demo d) = ForDemo d
+asked_of (commands.Climb c) = ForClimb (climb_asked c)
+asked_of (commands.Reduce r) = ForReduce (reduce_asked r)
+asked_of (commands.Batch b) = ForBatch (batch_asked b)
 
 -- the greatest depth of the induction and of the search for a difference, the most workers, and the greatest size of a demo
 abbrev pub most_depth : ℕ
@@ -82,12 +119,33 @@ pub record IsDemoWithin (d : Demo) : Type 0 where
   pub few : d.k ≤ most_depth
   pub workers : (0 < d.workers) × (d.workers ≤ most_workers)
 
+-- those of `climb`
+pub record IsClimbWithin (c : ClimbAsked) : Type 0 where
+  pub some : 0 < c.most
+  pub few : c.most ≤ most_depth
+  pub workers : (0 < c.workers) × (c.workers ≤ most_workers)
+
+-- those of `reduce`
+pub record IsReduceWithin (r : ReduceAsked) : Type 0 where
+  pub some : 0 < r.k
+  pub few : r.k ≤ most_depth
+  pub workers : (0 < r.workers) × (r.workers ≤ most_workers)
+
+-- and those of `batch`
+pub record IsBatchWithin (b : BatchAsked) : Type 0 where
+  pub some : 0 < b.k
+  pub few : b.k ≤ most_depth
+  pub workers : (0 < b.workers) × (b.workers ≤ most_workers)
+
 -- the numbers that are asked for are within their limits
 abbrev pub IsWithin : Asked → Type 0
 IsWithin (ForCheck c) = IsCheckWithin c
 IsWithin (ForReplay c) = Unit {0}
 IsWithin (ForVerify c) = Unit {0}
 IsWithin (ForDemo d) = IsDemoWithin d
+IsWithin (ForClimb c) = IsClimbWithin c
+IsWithin (ForReduce r) = IsReduceWithin r
+IsWithin (ForBatch b) = IsBatchWithin b
 
 -- the values of arguments, by their ids: a text, a number that has to be there, an option's number within limits, one that may be
 -- left out, and whether a flag was there
@@ -144,3 +202,29 @@ demo_from n k workers = None
 
 abbrev pub demo_of : Values → Option Asked
 demo_of v = demo_from (v.size (codes "N") most_size) (v.number (codes "k") most_depth) (v.number (codes "j") most_workers)
+
+-- all depths are tried, up to the greatest one or to the one that is asked for
+abbrev pub most_from : Option ℕ → ℕ
+most_from None = most_depth
+most_from (Some m) = m
+
+abbrev pub climb_from : Option (List ℕ) → Option (List ℕ) → Option ℕ → ℕ → Bool → Option Asked
+climb_from (Some left) (Some right) (Some workers) most least = Some (ForClimb (record { left = left; right = right; most = most; workers = workers; least = least }))
+climb_from left right workers most least = None
+
+abbrev pub climb_of : Values → Option Asked
+climb_of v = climb_from (v.text (codes "LEFT")) (v.text (codes "RIGHT")) (v.number (codes "j") most_workers) (most_from (v.optional (codes "m") most_depth)) (v.flag (codes "least"))
+
+abbrev pub reduce_from : Option (List ℕ) → Option (List ℕ) → Option ℕ → Option ℕ → Bool → Option Asked
+reduce_from (Some net) (Some out) (Some k) (Some workers) binary = Some (ForReduce (record { net = net; out = out; k = k; workers = workers; binary = binary }))
+reduce_from net out k workers binary = None
+
+abbrev pub reduce_of : Values → Option Asked
+reduce_of v = reduce_from (v.text (codes "NET")) (v.text (codes "OUT")) (v.number (codes "k") most_depth) (v.number (codes "j") most_workers) (v.flag (codes "binary"))
+
+abbrev pub batch_from : Option (List ℕ) → Option ℕ → Option ℕ → Option Asked
+batch_from (Some list) (Some k) (Some workers) = Some (ForBatch (record { list = list; k = k; workers = workers }))
+batch_from list k workers = None
+
+abbrev pub batch_of : Values → Option Asked
+batch_of v = batch_from (v.text (codes "LIST")) (v.number (codes "k") most_depth) (v.number (codes "j") most_workers)

@@ -3,8 +3,8 @@ use Rattle.std.specs.Prelude.{◌≡◌, ℕ, Bool, true, false, if◌then◌els
 use Rattle.std.specs.Str.Parse.{digits_value, without_leading_plus}
 use Rattle.clap.specs.Words.{Kinds, Row, fault_of, first_of, one_of, subcommand_of}
 use Rattle.clap.specs.ValueTests.{is_unsigned_in}
-use Rattle.command_line.specs.Asked.{Asked, Values, check_of, demo_of, replay_of, verify_of}
-use Rattle.command_line.specs.App.{check_line, demo_line, replay_line, sec_app, verify_line}
+use Rattle.command_line.specs.Asked.{Asked, Values, batch_of, check_of, climb_of, demo_of, reduce_of, replay_of, verify_of}
+use Rattle.command_line.specs.App.{batch_line, check_line, climb_line, demo_line, reduce_line, replay_line, sec_app, verify_line}
 use Rattle.command_line.specs.Plain.{plain_command}
 
 -- the number that a text spells for clap, where it is within these limits: decimal, maybe with zeros or a plus before it
@@ -40,6 +40,9 @@ matched (Some m) =
     else if bytes_eq m.0 replay_line.command then replay_of (values_matched m.1)
     else if bytes_eq m.0 verify_line.command then verify_of (values_matched m.1)
     else if bytes_eq m.0 demo_line.command then demo_of (values_matched m.1)
+    else if bytes_eq m.0 climb_line.command then climb_of (values_matched m.1)
+    else if bytes_eq m.0 reduce_line.command then reduce_of (values_matched m.1)
+    else if bytes_eq m.0 batch_line.command then batch_of (values_matched m.1)
     else None
 
 abbrev pub are_none : Kinds → Bool

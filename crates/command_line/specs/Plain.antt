@@ -3,8 +3,8 @@
 use Rattle.std.specs.Prelude.{◌==◌, ℕ, leb, ◌&&◌, ◌||◌, Bool, true, false, not, if◌then◌else◌, List, [], ◌∷◌, ◌++◌, codes, bytes_eq, String, map, find, string_bytes, Option, None, Some, option_map, option_and_then}
 use Rattle.std.specs.List.{list_all, list_any}
 use Rattle.std.specs.Str.Parse.{digits_value}
-use Rattle.command_line.specs.Asked.{Asked, Values, check_of, demo_of, replay_of, verify_of}
-use Rattle.command_line.specs.App.{Argument, Flag, Line, Long, Name, Number, Place, Short, Spelling, Value, check_line, demo_line, replay_line, verify_line}
+use Rattle.command_line.specs.Asked.{Asked, Values, batch_of, check_of, climb_of, demo_of, reduce_of, replay_of, verify_of}
+use Rattle.command_line.specs.App.{Argument, Flag, Line, Long, Name, Number, Place, Short, Spelling, Value, batch_line, check_line, climb_line, demo_line, reduce_line, replay_line, verify_line}
 
 -- the words as their bytes
 abbrev pub texts : {Z : Type 0} → List (String Z) → List (List ℕ)
@@ -129,6 +129,9 @@ command_read command words =
     else if bytes_eq command replay_line.command then asked_by replay_line replay_of words
     else if bytes_eq command verify_line.command then asked_by verify_line verify_of words
     else if bytes_eq command demo_line.command then asked_by demo_line demo_of words
+    else if bytes_eq command climb_line.command then asked_by climb_line climb_of words
+    else if bytes_eq command reduce_line.command then asked_by reduce_line reduce_of words
+    else if bytes_eq command batch_line.command then asked_by batch_line batch_of words
     else None
 
 -- what plain words ask for, or none where they aren't plain

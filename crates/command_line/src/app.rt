@@ -1,7 +1,7 @@
 // The command that is given to clap: a required subcommand for each line of the usage text. Its own help is clap's.
 ghost use Rattle.std.specs.Prelude.{◌≡◌, [], ◌∷◌, codes, false, IfOk};
 ghost use Rattle.clap.specs.Words.{rule_of};
-ghost use Rattle.command_line.specs.App.{name, size, number, depth, search_depth, workers, file, flag, name_rule, option_rule, check_app, replay_app, verify_app, demo_app, sec_app, IsCommand};
+ghost use Rattle.command_line.specs.App.{name, size, number, depth, search_depth, most, workers, file, flag, name_rule, option_rule, check_app, replay_app, verify_app, demo_app, climb_app, reduce_app, batch_app, sec_app, IsCommand};
 
 use crate::command::{MOST_DEPTH, MOST_SEARCH_DEPTH, MOST_SIZE, MOST_WORKERS};
 use clap::builder::ValueParser;
@@ -49,6 +49,14 @@ fn search_depth_arg<'a>(alloc: Global) -> Arg<'a>
     ensures local { result.global ≡ false }
 {
     number_arg(alloc, "d", 'd', MOST_SEARCH_DEPTH)
+}
+
+// The greatest depth of the induction that is tried.
+fn most_arg<'a>(alloc: Global) -> Arg<'a>
+    ensures rule { rule_of result ≡ option_rule most }
+    ensures local { result.global ≡ false }
+{
+    number_arg(alloc, "m", 'm', MOST_DEPTH)
 }
 
 // How many workers are asked for.
@@ -120,6 +128,37 @@ fn demo_command<'a>(alloc: Global) -> Result<Command<'a>, AllocError>
         .arg(workers_arg(alloc))
 }
 
+fn climb_command<'a>(alloc: Global) -> Result<Command<'a>, AllocError>
+    ensures { IfOk result (IsCommand climb_app) }
+{
+    Command::new(alloc, "climb")
+        .arg(name_arg(alloc, "LEFT"))?
+        .arg(name_arg(alloc, "RIGHT"))?
+        .arg(most_arg(alloc))?
+        .arg(workers_arg(alloc))?
+        .arg(flag_arg(alloc, "least"))
+}
+
+fn reduce_command<'a>(alloc: Global) -> Result<Command<'a>, AllocError>
+    ensures { IfOk result (IsCommand reduce_app) }
+{
+    Command::new(alloc, "reduce")
+        .arg(name_arg(alloc, "NET"))?
+        .arg(name_arg(alloc, "OUT"))?
+        .arg(depth_arg(alloc))?
+        .arg(workers_arg(alloc))?
+        .arg(flag_arg(alloc, "binary"))
+}
+
+fn batch_command<'a>(alloc: Global) -> Result<Command<'a>, AllocError>
+    ensures { IfOk result (IsCommand batch_app) }
+{
+    Command::new(alloc, "batch")
+        .arg(name_arg(alloc, "LIST"))?
+        .arg(depth_arg(alloc))?
+        .arg(workers_arg(alloc))
+}
+
 /// The whole command.
 pub(crate) fn sec_command<'a>(alloc: Global) -> Result<Command<'a>, AllocError>
     ensures { IfOk result (IsCommand sec_app) }
@@ -129,5 +168,8 @@ pub(crate) fn sec_command<'a>(alloc: Global) -> Result<Command<'a>, AllocError>
         .subcommand(check_command(alloc)?)?
         .subcommand(replay_command(alloc)?)?
         .subcommand(verify_command(alloc)?)?
-        .subcommand(demo_command(alloc)?)
+        .subcommand(demo_command(alloc)?)?
+        .subcommand(climb_command(alloc)?)?
+        .subcommand(reduce_command(alloc)?)?
+        .subcommand(batch_command(alloc)?)
 }

@@ -65,6 +65,45 @@ pub struct Demo {
     pub workers: u32,
 }
 
+/// The words of `climb`.
+#[derive(Clone, Copy, Debug, PartialEq, Eq)]
+pub struct Climb<'w> {
+    pub left: &'w str,
+    pub right: &'w str,
+    /// The greatest depth of the induction that is tried.
+    pub most: u32,
+    /// How many workers are asked for.
+    pub workers: u32,
+    /// Whether the trace of a difference is that of its least run.
+    pub least: bool,
+}
+
+/// The words of `reduce`.
+#[derive(Clone, Copy, Debug, PartialEq, Eq)]
+pub struct Reduce<'w> {
+    /// The netlist's file.
+    pub net: &'w str,
+    /// Where the reduced netlist is stored.
+    pub out: &'w str,
+    /// The depth of the induction.
+    pub k: u32,
+    /// How many workers are asked for.
+    pub workers: u32,
+    /// Whether it is stored in the binary form.
+    pub binary: bool,
+}
+
+/// The words of `batch`.
+#[derive(Clone, Copy, Debug, PartialEq, Eq)]
+pub struct Batch<'w> {
+    /// The file that lists the pairs.
+    pub list: &'w str,
+    /// The depth of the induction.
+    pub k: u32,
+    /// How many workers are asked for.
+    pub workers: u32,
+}
+
 /// What the words of a run ask for.
 #[derive(Clone, Copy, Debug, PartialEq, Eq)]
 pub enum Command<'w> {
@@ -72,6 +111,9 @@ pub enum Command<'w> {
     Replay(Replay<'w>),
     Verify(Verify<'w>),
     Demo(Demo),
+    Climb(Climb<'w>),
+    Reduce(Reduce<'w>),
+    Batch(Batch<'w>),
 }
 
 /// Why no command was read.

@@ -6,5 +6,5 @@ mod command;
 mod read;
 mod taken;
 
-pub use command::{Check, Command, Demo, Replay, Unread, Verify};
+pub use command::{Batch, Check, Climb, Command, Demo, Reduce, Replay, Unread, Verify};
 pub use read::read_words;

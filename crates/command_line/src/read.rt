@@ -9,8 +9,9 @@ use crate::taken::taken_command;
 use std::alloc::Global;
 
 /// What the words of a run ask for, of which the first is the program's own name: `check LEFT RIGHT [-k K] [-d D] [-j J] [--classes]
-/// [--stats] [--trace FILE] [--cert FILE] [--tie] [--least]`, `replay LEFT RIGHT TRACE [--tie]`, `verify LEFT RIGHT CERT [--tie]` or
-/// `demo N [-k K] [-j J]`.
+/// [--stats] [--trace FILE] [--cert FILE] [--tie] [--least]`, `replay LEFT RIGHT TRACE [--tie]`, `verify LEFT RIGHT CERT [--tie]`,
+/// `demo N [-k K] [-j J]`, `climb LEFT RIGHT [-m M] [-j J] [--least]`,
+/// `reduce NET OUT [-k K] [-j J] [--binary]` or `batch LIST [-k K] [-j J]`.
 /// Clap reads them. Plain words it always takes, and they mean what they say; other words that it takes mean what its matches
 /// say. The names are texts among the words. An error says that clap refuses the words, so that they aren't plain and mean
 /// nothing, or that it had no memory.

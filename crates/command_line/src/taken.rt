@@ -1,14 +1,14 @@
 // The words as clap takes them: what its matches say becomes the command.
 ghost use Rattle.std.specs.Prelude.{◌≡◌, ◌≤◌, IfErr, IfOk, IfSome, MatchResult, None, Some, false, option_map, true};
 ghost use Rattle.clap.specs.Words.{first_of, found_of, rows_of, subcommand_rows_of};
-ghost use Rattle.command_line.specs.Asked.{asked_of, IsWithin, check_of, depth_from, demo_of, replay_of, verify_of};
+ghost use Rattle.command_line.specs.Asked.{asked_of, IsWithin, batch_of, check_of, climb_of, depth_from, demo_of, most_from, reduce_of, replay_of, verify_of};
 ghost use Rattle.command_line.specs.Meant.{number_of, has_flag, values_matched, matched, is_taken, taken_command};
 ghost use Rattle.command_line.specs.Plain.{texts};
 
 use crate::app::sec_command;
 use crate::command::{
-    Check, Command, Demo, MOST_DEPTH, MOST_SEARCH_DEPTH, MOST_SIZE, MOST_WORKERS, Replay, Unread,
-    Verify,
+    Batch, Check, Climb, Command, Demo, MOST_DEPTH, MOST_SEARCH_DEPTH, MOST_SIZE, MOST_WORKERS,
+    Reduce, Replay, Unread, Verify,
 };
 use clap::ArgMatches;
 use clap::error::ErrorKind;
@@ -118,6 +118,62 @@ fn demo_of<'w>(found: &ArgMatches<'w>) -> Option<Command<'w>>
     Some(Command::Demo(Demo { n, k, workers }))
 }
 
+// The greatest depth of the induction that is tried.
+fn most_from(asked: Option<u32>) -> u32
+    ensures { result ≡ most_from asked }
+{
+    match asked {
+        Some(most) => most,
+        None => MOST_DEPTH,
+    }
+}
+
+fn climb_of<'w>(found: &ArgMatches<'w>) -> Option<Command<'w>>
+    ensures command { option_map asked_of result ≡ climb_of (values_matched (rows_of (found_of found.now))) }
+    ensures within { IfSome result (λ c. IsWithin (asked_of c)) }
+{
+    let left = text_of(found, "LEFT")?;
+    let right = text_of(found, "RIGHT")?;
+    let most = most_from(number_of(found, "m", 1, MOST_DEPTH));
+    let workers = number_of(found, "j", 1, MOST_WORKERS)?;
+    let least = has_flag(found, "least");
+    Some(Command::Climb(Climb {
+        left,
+        right,
+        most,
+        workers,
+        least,
+    }))
+}
+
+fn reduce_of<'w>(found: &ArgMatches<'w>) -> Option<Command<'w>>
+    ensures command { option_map asked_of result ≡ reduce_of (values_matched (rows_of (found_of found.now))) }
+    ensures within { IfSome result (λ c. IsWithin (asked_of c)) }
+{
+    let net = text_of(found, "NET")?;
+    let out = text_of(found, "OUT")?;
+    let depth = number_of(found, "k", 1, MOST_DEPTH)?;
+    let workers = number_of(found, "j", 1, MOST_WORKERS)?;
+    let binary = has_flag(found, "binary");
+    Some(Command::Reduce(Reduce {
+        net,
+        out,
+        k: depth,
+        workers,
+        binary,
+    }))
+}
+
+fn batch_of<'w>(found: &ArgMatches<'w>) -> Option<Command<'w>>
+    ensures command { option_map asked_of result ≡ batch_of (values_matched (rows_of (found_of found.now))) }
+    ensures within { IfSome result (λ c. IsWithin (asked_of c)) }
+{
+    let list = text_of(found, "LIST")?;
+    let k = number_of(found, "k", 1, MOST_DEPTH)?;
+    let workers = number_of(found, "j", 1, MOST_WORKERS)?;
+    Some(Command::Batch(Batch { list, k, workers }))
+}
+
 // What the matches say.
 fn matched<'w>(matches: &ArgMatches<'w>) -> Option<Command<'w>>
     ensures command { option_map asked_of result ≡ matched (subcommand_rows_of matches.now) }
@@ -132,6 +188,12 @@ fn matched<'w>(matches: &ArgMatches<'w>) -> Option<Command<'w>>
         verify_of(found)
     } else if name == "demo" {
         demo_of(found)
+    } else if name == "climb" {
+        climb_of(found)
+    } else if name == "reduce" {
+        reduce_of(found)
+    } else if name == "batch" {
+        batch_of(found)
     } else {
         None
     }

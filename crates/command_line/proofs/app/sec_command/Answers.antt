@@ -17,4 +17,7 @@ returns c =
     let one = with_one_subcommand _ _ _ _ _ c.in_ok-subcommand.ensures c.in_ok-check_command.ensures empty in
     let two = with_one_subcommand _ _ _ _ _ c.in_ok-subcommand-2.ensures c.in_ok-replay_command.ensures one in
     let three = with_one_subcommand _ _ _ _ _ c.in_ok-subcommand-3.ensures c.in_ok-verify_command.ensures two in
-    IfOk-weaker c.subcommand-4.result _ _ (λ r added. with_one_subcommand _ r _ _ _ added c.in_ok-demo_command.ensures three) c.subcommand-4.ensures
+    let four = with_one_subcommand _ _ _ _ _ c.in_ok-subcommand-4.ensures c.in_ok-demo_command.ensures three in
+    let five = with_one_subcommand _ _ _ _ _ c.in_ok-subcommand-5.ensures c.in_ok-climb_command.ensures four in
+    let six = with_one_subcommand _ _ _ _ _ c.in_ok-subcommand-6.ensures c.in_ok-reduce_command.ensures five in
+    IfOk-weaker c.subcommand-7.result _ _ (λ r added. with_one_subcommand _ r _ _ _ added c.in_ok-batch_command.ensures six) c.subcommand-7.ensures
