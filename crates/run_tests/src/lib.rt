@@ -3,6 +3,8 @@
 #![tactic(auto)]
 
 #[cfg(test)]
+mod climbs;
+#[cfg(test)]
 mod demos;
 #[cfg(test)]
 mod devices;

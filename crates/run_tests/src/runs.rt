@@ -15,28 +15,28 @@ use verdict_stamp::greatest_classes;
 
 // What a run over two netlists and a trace answers.
 #[derive(Clone, Copy)]
-struct Row {
-    words: &'static str,
-    left: &'static str,
-    right: &'static str,
+pub(crate) struct Row {
+    pub(crate) words: &'static str,
+    pub(crate) left: &'static str,
+    pub(crate) right: &'static str,
     trace: &'static str,
     status: u8,
     out: &'static str,
     err: &'static str,
 }
 
-const TOGGLE: &str = "aag 1 0 1 1 0\n2 3\n2\n";
+pub(crate) const TOGGLE: &str = "aag 1 0 1 1 0\n2 3\n2\n";
 
-const LOW: &str = "aag 0 0 0 1 0\n0\n";
+pub(crate) const LOW: &str = "aag 0 0 0 1 0\n0\n";
 
-const RING: &str = "aag 4 0 3 1 1\n2 6 1\n4 2\n6 4\n8\n8 2 4\n";
+pub(crate) const RING: &str = "aag 4 0 3 1 1\n2 6 1\n4 2\n6 4\n8\n8 2 4\n";
 
-const DELAY: &str = "aag 2 1 1 1 0\n2\n4 2\n4\n";
+pub(crate) const DELAY: &str = "aag 2 1 1 1 0\n2\n4 2\n4\n";
 
-const MASKED: &str =
+pub(crate) const MASKED: &str =
     "aag 10 1 3 1 6\n2\n4 2\n6 21\n8 1\n6\n10 4 9\n12 5 8\n14 11 13\n16 2 14\n18 3 15\n20 17 19\n";
 
-fn words_of(alloc: Global, text: &str) -> Result<Vec<String>, AllocError> {
+pub(crate) fn words_of(alloc: Global, text: &str) -> Result<Vec<String>, AllocError> {
     let mut words = Vec::new(alloc);
     for word in text.split(' ') {
         words.push(format!(in alloc; "{word}")?)?;
@@ -45,7 +45,7 @@ fn words_of(alloc: Global, text: &str) -> Result<Vec<String>, AllocError> {
 }
 
 // A shelf with the files of a row, of which the calls that are listed fail.
-fn shelf_of(alloc: Global, row: &Row, fails: Vec<u64>) -> Option<MemShelf> {
+pub(crate) fn shelf_of(alloc: Global, row: &Row, fails: Vec<u64>) -> Option<MemShelf> {
     let mut shelf = MemShelf::new(alloc, fails);
     if shelf.put("left", row.left.as_bytes()).is_err() {
         return None;
@@ -102,7 +102,7 @@ fn run_within<R: Threads + Wait + Sync>(
     }
 }
 
-fn answers_so<R: Threads + Wait + Sync>(
+pub(crate) fn answers_so<R: Threads + Wait + Sync>(
     rt: &R,
     alloc: Global,
     row: &Row,
@@ -111,7 +111,7 @@ fn answers_so<R: Threads + Wait + Sync>(
     Ok(shelf.is_some())
 }
 
-fn case(
+pub(crate) fn case(
     words: &'static str,
     left: &'static str,
     right: &'static str,
@@ -543,7 +543,7 @@ fn seven_workers_tell_the_same_each_time(rt: HostRuntime) -> Result<(), Fail> {
 fn words_that_are_no_command(rt: HostRuntime) -> Result<(), Fail> {
     let alloc = rt.alloc();
     let usage =
-        "usage: sec check LEFT RIGHT [-k K] [-d D] [-j J] [--classes] [--stats] [--trace FILE] [--cert FILE] [--tie] [--least]\n       sec replay LEFT RIGHT TRACE [--tie]\n       sec verify LEFT RIGHT CERT [--tie]\n       sec demo N [-k K] [-j J]\n";
+        "usage: sec check LEFT RIGHT [-k K] [-d D] [-j J] [--classes] [--stats] [--trace FILE] [--cert FILE] [--tie] [--least]\n       sec replay LEFT RIGHT TRACE [--tie]\n       sec verify LEFT RIGHT CERT [--tie]\n       sec demo N [-k K] [-j J]\n       sec climb LEFT RIGHT [-m M] [-j J] [--least]\n";
     for words in [
         "sec",
         "sec help",
@@ -581,6 +581,8 @@ fn words_that_are_no_command(rt: HostRuntime) -> Result<(), Fail> {
         "sec demo 1 --stats",
         "sec replay left right trace --stats",
         "sec demo -k 1",
+        "sec climb left",
+        "sec climb left right -k 1",
     ] {
         assert!(rt; answers_so(&rt, alloc, &case(words, TOGGLE, TOGGLE, 3, "", usage))?);
     }

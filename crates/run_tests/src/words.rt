@@ -61,6 +61,20 @@ fn said(alloc: Global, text: &str) -> Result<String, AllocError> {
             let (n, k, workers) = (d.n, d.k, d.workers);
             format!(in alloc; "demo {n} k={k} j={workers}")
         }
+        Ok(Command::Climb(c)) => {
+            let least = if c.least { " least" } else { "" };
+            let (left, right, most, workers) = (c.left, c.right, c.most, c.workers);
+            format!(in alloc; "climb <{left}> <{right}> m={most} j={workers}{least}")
+        }
+        Ok(Command::Reduce(r)) => {
+            let binary = if r.binary { " binary" } else { "" };
+            let (net, out, k, workers) = (r.net, r.out, r.k, r.workers);
+            format!(in alloc; "reduce <{net}> <{out}> k={k} j={workers}{binary}")
+        }
+        Ok(Command::Batch(b)) => {
+            let (list, k, workers) = (b.list, b.k, b.workers);
+            format!(in alloc; "batch <{list}> k={k} j={workers}")
+        }
         Err(Unread::NotACommand) => format!(in alloc; "no command"),
         Err(Unread::Memory) => format!(in alloc; "no memory"),
     }
@@ -98,6 +112,18 @@ fn plain_words_mean_what_they_say(rt: HostRuntime) -> Result<(), Fail> {
         ("sec verify a b c", "verify <a> <b> <c>"),
         ("sec demo 0", "demo 0 k=1 j=1"),
         ("sec demo -j 7 100000 -k 2", "demo 100000 k=2 j=7"),
+        ("sec climb a b", "climb <a> <b> m=16 j=1"),
+        (
+            "sec climb -m 1 a --least -j 64 b",
+            "climb <a> <b> m=1 j=64 least",
+        ),
+        ("sec reduce n o", "reduce <n> <o> k=1 j=1"),
+        (
+            "sec reduce --binary n -k 2 o -j 3",
+            "reduce <n> <o> k=2 j=3 binary",
+        ),
+        ("sec batch list", "batch <list> k=1 j=1"),
+        ("sec batch -k 16 list -j 4", "batch <list> k=16 j=4"),
     ];
     for (text, wanted) in rows {
         assert_eq!(rt; said(rt.alloc(), text)?.as_str(), wanted, "{text}");
@@ -139,6 +165,8 @@ fn other_spellings_that_clap_takes(rt: HostRuntime) -> Result<(), Fail> {
         ("sec verify -- -a b c", "verify <-a> <b> <c>"),
         ("sec demo 05 -j3", "demo 5 k=1 j=3"),
         ("sec demo +5", "demo 5 k=1 j=1"),
+        ("sec climb a b -m=+3", "climb <a> <b> m=3 j=1"),
+        ("sec batch -j02 -- -l", "batch <-l> k=1 j=2"),
         (" check a b", "check <a> <b> k=1 j=1"),
         ("sec check a ", "check <a> <> k=1 j=1"),
     ];
@@ -216,6 +244,21 @@ fn words_that_are_no_command(rt: HostRuntime) -> Result<(), Fail> {
         "sec demo 1 --stats",
         "sec demo 1 -d 2",
         "sec demo -- -1",
+        "sec climb a",
+        "sec climb a b c",
+        "sec climb a b -m 0",
+        "sec climb a b -m 17",
+        "sec climb a b -k 2",
+        "sec climb a b --tie",
+        "sec climb a b --least --least",
+        "sec reduce n",
+        "sec reduce n o p",
+        "sec reduce n o -k 0",
+        "sec reduce n o --binary --binary",
+        "sec batch",
+        "sec batch l m",
+        "sec batch l -k 17",
+        "sec batch l --least",
     ] {
         assert_eq!(rt; said(rt.alloc(), text)?.as_str(), "no command", "{text}");
     }

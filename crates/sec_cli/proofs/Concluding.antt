@@ -1,5 +1,5 @@
 -- What follows from what became of an ending.
-use Rattle.std.proofs.Common.{◌≡◌, ◌≢◌, ◌≤◌, ◌∙◌, ℕ, List, [], Bool, Option, None, Some, is_some, IfOk, IsSomeAnd, Ok, Err, inl, inr, refl, ap, sym, subst, arith}
+use Rattle.std.proofs.Common.{◌≡◌, ◌≢◌, ◌≤◌, ◌∙◌, ℕ, List, [], Bool, Option, None, Some, IfOk, IsSomeAnd, Ok, Err, inl, inr, refl, ap, sym, subst, arith}
 use Rattle.std.proofs.lemmas.Bool.{ne_eqb}
 use Rattle.sec_base.specs.Faults.{appended}
 use Rattle.sec_base.proofs.Pieces.{appended_none}
@@ -8,8 +8,8 @@ use Rattle.sec_cli.specs.declared.ending.Unpaired.{Unpaired}
 use Rattle.sec_cli.specs.declared.ending.Unpaired.TheVariants as unpaired
 use Rattle.sec_cli.specs.declared.ending.Refusal.{Refusal}
 use Rattle.sec_cli.specs.declared.ending.Refusal.TheVariants as refusals
-use Rattle.command_line.specs.Asked.{Asked, ForCheck, ForReplay, ForVerify, ForDemo}
-use Rattle.sec_cli.specs.Endings.{Ending, IsLoadFailed, IsLoadEnding, refines, journal_of, failed_side, failed_names, left_name, right_name, third_name}
+use Rattle.command_line.specs.Asked.{Asked, ForCheck, ForReplay, ForVerify, ForDemo, ForClimb, ForReduce, ForBatch}
+use Rattle.sec_cli.specs.Endings.{Ending, IsLoadFailed, IsLoadEnding, HasJournal, journal_of, failed_side, failed_names, left_name, right_name, third_name}
 use Rattle.sec_cli.specs.Texts.{memory_text}
 use Rattle.sec_cli.specs.Reports.{World, IsReport, IsStored, IsToldIn, unpaired_status, unpaired_text, refusal_status, refusal_text, store_name}
 use Rattle.sec_cli.specs.Runs.{Ended, IsAnswered, IsJournalOfWords, IsRefused, IsUnread, IsUnwritten}
@@ -86,12 +86,15 @@ no_name_for : (c : Asked) (status : ℕ) → 2 ≤ status → store_name c statu
 no_name_for (ForReplay c) status h = refl
 no_name_for (ForVerify c) status h = refl
 no_name_for (ForDemo d) status h = refl
+no_name_for (ForClimb c) status h = refl
+no_name_for (ForReduce r) status h = refl
+no_name_for (ForBatch b) status h = refl
 no_name_for (ForCheck c) status h = let d = ne_eqb status 1 (λ e. omega (arith, h, e)) in let q = ne_eqb status 0 (λ e. omega (arith, h, e)) in rw d (rw q refl)
 
 -- the clauses of a run, for each ending
-pub answered : (tells : Bool) (c : Asked) (e : Ending) (journal : Option Written) (before after : World) (status : ℕ) → IfOk e (λ a. a.status ≤ 2) → IfOk e (λ a. is_some a.journal ≡ refines c a.status) → journal ≡ journal_of e → Ended tells before.files c e → IsReport tells c e before after status → status ≤ 2
+pub answered : (tells : Bool) (c : Asked) (e : Ending) (journal : Option Written) (before after : World) (status : ℕ) → IfOk e (λ a. a.status ≤ 2) → IfOk e (λ a. HasJournal c a.status a.journal) → journal ≡ journal_of e → Ended tells before.files c e → IsReport tells c e before after status → status ≤ 2
     → IsAnswered tells c status journal before after
-answered tells c (Ok a) journal before after status low has from ended (inl (is, p)) le = record { answer = a; ended = ended; status_is = sym is; journal_is = sym from; refined = ap is_some from ∙ has ∙ ap (refines c) (sym is); stored = p.stored; printed = p.printed }
+answered tells c (Ok a) journal before after status low has from ended (inl (is, p)) le = record { answer = a; ended = ended; status_is = sym is; journal_is = sym from; refined = subst (λ (o : Option Written). HasJournal c status o) (sym from) (subst (λ (s : ℕ). HasJournal c s a.journal) (sym is) has); stored = p.stored; printed = p.printed }
 answered tells c (Ok a) journal before after status low has from ended (inr (inl (six, p))) le = absurd (omega (arith, six, le))
 answered tells c (Ok a) journal before after status low has from ended (inr (inr (seven, p))) le = absurd (omega (arith, seven, le))
 answered tells c (Err r) journal before after status low has from ended (is, p) le = absurd (omega (arith, is, (refusal_high r).0, le))
@@ -123,10 +126,10 @@ is_load tells c (Ok a) before after status low (inr (inl (six, p))) five = absur
 is_load tells c (Ok a) before after status low (inr (inr (seven, p))) five = absurd (omega (arith, seven, five))
 is_load tells c (Err r) before after status low (is, p) five = refusal_load r (sym is ∙ five)
 
-pub unwritten : (tells : Bool) (c : Asked) (e : Ending) (journal : Option Written) (before after : World) (status : ℕ) → IfOk e (λ a. a.status ≤ 2) → IfOk e (λ a. is_some a.journal ≡ refines c a.status) → journal ≡ journal_of e → Ended tells before.files c e → IsReport tells c e before after status → status ≡ 6
+pub unwritten : (tells : Bool) (c : Asked) (e : Ending) (journal : Option Written) (before after : World) (status : ℕ) → IfOk e (λ a. a.status ≤ 2) → IfOk e (λ a. HasJournal c a.status a.journal) → journal ≡ journal_of e → Ended tells before.files c e → IsReport tells c e before after status → status ≡ 6
     → IsUnwritten tells c journal before after
 unwritten tells c (Ok a) journal before after status low has from ended (inl (is, p)) six = absurd (omega (arith, is, low, six))
-unwritten tells c (Ok a) journal before after status low has from ended (inr (inl (is, p))) six = record { answer = a; ended = ended; journal_is = sym from; refined = ap is_some from ∙ has; failed = p }
+unwritten tells c (Ok a) journal before after status low has from ended (inr (inl (is, p))) six = record { answer = a; ended = ended; journal_is = sym from; refined = subst (HasJournal c a.status) (sym from) has; failed = p }
 unwritten tells c (Ok a) journal before after status low has from ended (inr (inr (seven, p))) six = absurd (omega (arith, seven, six))
 unwritten tells c (Err r) journal before after status low has from ended (is, p) six = absurd ((refusal_high r).1 (sym is ∙ six))
 
@@ -186,3 +189,6 @@ no_memory_journal tells files (Some (ForCheck c)) = (Err refusals.Memory, (λ _.
 no_memory_journal tells files (Some (ForReplay c)) = (Err refusals.Memory, (λ _. tt), refl)
 no_memory_journal tells files (Some (ForVerify c)) = (Err refusals.Memory, (λ _. tt), refl)
 no_memory_journal tells files (Some (ForDemo d)) = (Err refusals.Memory, tt, refl)
+no_memory_journal tells files (Some (ForClimb c)) = (Err refusals.Memory, (λ _. tt), refl)
+no_memory_journal tells files (Some (ForReduce r)) = (Err refusals.Memory, refl, refl)
+no_memory_journal tells files (Some (ForBatch b)) = (Err refusals.Memory, refl, refl)

@@ -1,4 +1,5 @@
 pub mod CutShort
+pub mod Depths
 pub mod Concluding
 pub mod OneAnswer
 pub mod SameLines

@@ -1,5 +1,5 @@
 -- With `--least` and without `--stats` all answers to the same files and words are the same.
-use Rattle.std.proofs.Common.{◌≡◌, ◌∙◌, ℕ, Bool, true, false, List, [], ◌++◌, Option, Some, None, IsSomeAnd, MatchBool, Ok, refl, ap, ap₂, sym, subst}
+use Rattle.std.proofs.Common.{◌≡◌, ◌∙◌, ◌<◌, ℕ, Bool, true, false, List, [], ◌++◌, Option, Some, None, IsSomeAnd, MatchBool, Ok, refl, ap, ap₂, sym, subst, arith}
 use Rattle.sec_base.specs.Faults.{appended}
 use Rattle.circ_model.specs.Netlist.{Netlist}
 use Rattle.circ_model.specs.Meaning.{Pair, Path, places_of}
@@ -12,14 +12,15 @@ use Rattle.induction_base.proofs.Fixing.{one_least}
 use Rattle.trace_witness.specs.Texts.{trace_text}
 use Rattle.refine_board.specs.declared.journal.Entry.{Entry}
 use Rattle.refine_board.specs.Running.{Written}
-use Rattle.command_line.specs.Asked.{Asked, CheckAsked, ForCheck, ForReplay, ForVerify, ForDemo}
+use Rattle.command_line.specs.Asked.{Asked, CheckAsked, ClimbAsked, ForCheck, ForReplay, ForVerify, ForDemo, ForClimb, ForReduce, ForBatch}
 use Rattle.sec_cli.specs.declared.ending.Answer.{Answer}
 use Rattle.sec_cli.specs.Texts.{different_line}
 use Rattle.sec_cli.specs.Answers.{IsCheckAnswer, IsRefinedText, IsVerdictText, stats_lines, status_of_verdict}
-use Rattle.sec_cli.specs.Endings.{ArePair, IsAccepted, IsCheckEnding}
+use Rattle.sec_cli.specs.Climbs.{IsClimbAnswer, IsLastTried, check_of_climb}
+use Rattle.sec_cli.specs.Endings.{ArePair, IsAccepted, IsCheckEnding, IsClimbEnding}
 use Rattle.sec_cli.specs.Reports.{World, IsStored, store_name}
 use Rattle.sec_cli.specs.Runs.{IsAnswered}
-use Rattle.sec_cli.specs.OneAnswer.{AreSame, OneAnswer, IsOf, IsOneAnswer}
+use Rattle.sec_cli.specs.OneAnswer.{AreSame, OneAnswer, OneClimb, IsOf, IsOneAnswer}
 use Rattle.sec_cli.proofs.SameLines.{lines_same}
 
 -- a file is accepted as one netlist
@@ -70,6 +71,25 @@ pub one_answer : OneAnswer
 one_answer left right c a b least quiet (p, is_p, answer_p) (q, is_q, answer_q) =
     answers_one p c a b least quiet answer_p (subst (λ (x : Pair). IsCheckAnswer x c b) (pair_same c.tied left right q p is_q is_p) answer_q)
 
+-- a depth below which nothing is decided isn't one that decides
+not_below : (pair : Pair) (c : ClimbAsked) (j k : ℕ) (a b : Answer) → IsLastTried pair c.most j a.status → IsCheckAnswer pair (check_of_climb c j) a → IsLastTried pair c.most k b.status → j < k → ⊥
+not_below pair c j k a b last_a (v, is_v, status_a, text_a) last_b lt =
+    let (classes, unpaired, is_open) = last_b.below j last_a.some lt in
+    let same : v ≡ Undecided classes unpaired = one_verdict pair j j v (Undecided classes unpaired) is_v is_open in
+    let end : j ≡ c.most = last_a.ends (status_a ∙ ap status_of_verdict same) in
+    omega (arith, end, lt, last_b.few)
+
+climbs_one : (pair : Pair) (c : ClimbAsked) (a b : Answer) → c.least ≡ true → IsClimbAnswer pair c a → IsClimbAnswer pair c b → AreSame a b
+climbs_one pair c a b least (j, last_a, answer_a, journal_a) (k, last_b, answer_b, journal_b) =
+    let up = not_below pair c j k a b last_a answer_a last_b in
+    let down = not_below pair c k j b a last_b answer_b last_a in
+    let same : k ≡ j = omega (arith, up, down) in
+    answers_one pair (check_of_climb c j) a b least refl answer_a (subst (λ (n : ℕ). IsCheckAnswer pair (check_of_climb c n) b) same answer_b)
+
+pub one_climb : OneClimb
+one_climb left right c a b least (p, is_p, answer_p) (q, is_q, answer_q) =
+    climbs_one p c a b least answer_p (subst (λ (x : Pair). IsClimbAnswer x c b) (pair_same false left right q p is_q is_p) answer_q)
+
 -- what was printed and stored is that of each answer
 pub only_answer : (tells : Bool) (c : Asked) (status : ℕ) (journal : Option Written) (before after : World) → IsAnswered tells c status journal before after → IsOneAnswer tells c status before after
 only_answer tells (ForCheck c) status journal before after given = λ told least quiet other h.
@@ -85,3 +105,8 @@ only_answer tells (ForCheck c) status journal before after given = λ told least
 only_answer tells (ForReplay c) status journal before after given = tt
 only_answer tells (ForVerify c) status journal before after given = tt
 only_answer tells (ForDemo d) status journal before after given = tt
+only_answer tells (ForClimb c) status journal before after given = λ told least other h.
+    let one = one_climb (before.files c.left) (before.files c.right) c given.answer other least (given.ended told) h in
+    record { status_is = sym one.status ∙ given.status_is; printed = given.printed ∙ ap (appended before.out) one.text }
+only_answer tells (ForReduce r) status journal before after given = tt
+only_answer tells (ForBatch b) status journal before after given = tt

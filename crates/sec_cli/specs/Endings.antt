@@ -1,5 +1,5 @@
 -- How a run ends, before anything of it is written.
-use Rattle.std.specs.Prelude.{◌≡◌, ◌≢◌, ℕ, ◌<◌, ◌≤◌, ◌⊎◌, List, [], ◌∷◌, length, Bool, IsTrue, false, Option, None, IsSomeAnd, Result, Ok, Err}
+use Rattle.std.specs.Prelude.{◌≡◌, ◌≢◌, ℕ, ◌<◌, ◌≤◌, ◌⊎◌, List, [], ◌∷◌, length, Bool, IsTrue, false, Option, None, is_some, IsSomeAnd, Result, Ok, Err}
 use Rattle.circ_model.specs.Netlist.{Netlist}
 use Rattle.circ_model.specs.Meaning.{Pair, IsSoundPair, free_latches}
 use Rattle.aiger_codec.specs.Lines.{fault}
@@ -12,7 +12,8 @@ use Rattle.trace_witness.specs.Lines.{lines_of}
 use Rattle.trace_witness.specs.Texts.{trace_of}
 use Rattle.refine_board.specs.Running.{Written}
 use Rattle.sec_cli.specs.Answers.{IsCheckAnswer, IsReplayAnswer, IsVerifyAnswer, IsDemoAnswer, is_refined}
-use Rattle.command_line.specs.Asked.{Asked, ForCheck, ForReplay, ForVerify, ForDemo, CheckAsked}
+use Rattle.sec_cli.specs.Climbs.{IsClimbAnswer}
+use Rattle.command_line.specs.Asked.{Asked, ForCheck, ForReplay, ForVerify, ForDemo, ForClimb, ForReduce, ForBatch, CheckAsked, ClimbAsked}
 use Rattle.command_line.specs.declared.command.Demo.{Demo}
 use Rattle.sec_cli.specs.declared.ending.Answer.{Answer}
 use Rattle.sec_cli.specs.declared.ending.Refusal.{Refusal}
@@ -92,18 +93,27 @@ left_name (ForCheck c) = c.left
 left_name (ForReplay c) = c.left
 left_name (ForVerify c) = c.left
 left_name (ForDemo d) = []
+left_name (ForClimb c) = c.left
+left_name (ForReduce r) = r.net
+left_name (ForBatch b) = []
 
 abbrev pub right_name : Asked → List ℕ
 right_name (ForCheck c) = c.right
 right_name (ForReplay c) = c.right
 right_name (ForVerify c) = c.right
 right_name (ForDemo d) = []
+right_name (ForClimb c) = c.right
+right_name (ForReduce r) = []
+right_name (ForBatch b) = []
 
 abbrev pub third_name : Asked → List ℕ
 third_name (ForCheck c) = []
 third_name (ForReplay c) = c.trace
 third_name (ForVerify c) = c.cert
 third_name (ForDemo d) = []
+third_name (ForClimb c) = []
+third_name (ForReduce r) = []
+third_name (ForBatch b) = []
 
 -- how the check of two files ends
 abbrev pub IsCheckEnding : Option (List ℕ) → Option (List ℕ) → CheckAsked → Ending → Type 0
@@ -114,6 +124,16 @@ IsCheckEnding left right c (Err refusals.ThirdFailed) = ⊥
 IsCheckEnding left right c (Err refusals.ThirdTooLong) = ⊥
 IsCheckEnding left right c (Err (refusals.TraceRefused f)) = ⊥
 IsCheckEnding left right c (Err (refusals.CertRefused f)) = ⊥
+
+-- how a climb over two files ends
+abbrev pub IsClimbEnding : Option (List ℕ) → Option (List ℕ) → ClimbAsked → Ending → Type 0
+IsClimbEnding left right c (Err refusals.Memory) = Unit {0}
+IsClimbEnding left right c (Err (refusals.Unpaired u)) = IsNoPair false left right u
+IsClimbEnding left right c (Ok a) = (pair : Pair) × ArePair false left right pair × IsClimbAnswer pair c a
+IsClimbEnding left right c (Err refusals.ThirdFailed) = ⊥
+IsClimbEnding left right c (Err refusals.ThirdTooLong) = ⊥
+IsClimbEnding left right c (Err (refusals.TraceRefused f)) = ⊥
+IsClimbEnding left right c (Err (refusals.CertRefused f)) = ⊥
 
 -- and how the replay of a third file on them ends
 abbrev pub IsReplayEnding : Bool → Option (List ℕ) → Option (List ℕ) → Option (List ℕ) → Ending → Type 0
@@ -145,12 +165,15 @@ IsDemoEnding d (Err refusals.ThirdTooLong) = ⊥
 IsDemoEnding d (Err (refusals.TraceRefused f)) = ⊥
 IsDemoEnding d (Err (refusals.CertRefused f)) = ⊥
 
--- the answers of this status that come from a refinement
-abbrev pub refines : Asked → ℕ → Bool
-refines (ForCheck c) status = is_refined status
-refines (ForReplay c) status = false
-refines (ForVerify c) status = false
-refines (ForDemo d) status = is_refined status
+-- an answer of this status has a journal where it comes from a refinement; a climb may have refined before it came to a difference
+abbrev pub HasJournal : Asked → ℕ → Option Written → Type 0
+HasJournal (ForCheck c) status journal = is_some journal ≡ is_refined status
+HasJournal (ForReplay c) status journal = journal ≡ None
+HasJournal (ForVerify c) status journal = journal ≡ None
+HasJournal (ForDemo d) status journal = is_some journal ≡ is_refined status
+HasJournal (ForClimb c) status journal = status ≢ 1 → IsTrue (is_some journal)
+HasJournal (ForReduce r) status journal = IsTrue (is_some journal)
+HasJournal (ForBatch b) status journal = journal ≡ None
 
 abbrev pub journal_of : Ending → Option Written
 journal_of (Ok a) = a.journal

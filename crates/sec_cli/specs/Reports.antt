@@ -10,7 +10,7 @@ use Rattle.sec_cli.specs.declared.ending.Side.{Side}
 use Rattle.sec_cli.specs.declared.ending.Side.TheVariants.{Left, Right}
 use Rattle.sec_cli.specs.declared.ending.Unpaired.{Unpaired}
 use Rattle.sec_cli.specs.declared.ending.Unpaired.TheVariants as unpaired
-use Rattle.command_line.specs.Asked.{Asked, ForCheck, ForReplay, ForVerify, ForDemo}
+use Rattle.command_line.specs.Asked.{Asked, ForCheck, ForReplay, ForVerify, ForDemo, ForClimb, ForReduce, ForBatch}
 use Rattle.sec_cli.specs.Endings.{Ending, longest_third, left_name, right_name, third_name}
 use Rattle.sec_cli.specs.Texts.{fault_text, trace_fault_text, cert_fault_text, differ_text, read_failed_text, store_failed_text, write_failed_text, memory_text}
 
@@ -65,6 +65,9 @@ store_name (ForCheck c) status = if status == 1 then c.trace else if status == 0
 store_name (ForReplay c) status = None
 store_name (ForVerify c) status = None
 store_name (ForDemo d) status = None
+store_name (ForClimb c) status = None
+store_name (ForReduce r) status = None
+store_name (ForBatch b) status = None
 
 -- all files but this one stay
 abbrev pub OthersStay : (List ℕ → Option (List ℕ)) → (List ℕ → Option (List ℕ)) → List ℕ → Type 0

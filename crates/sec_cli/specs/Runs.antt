@@ -1,11 +1,12 @@
 -- What a run of words that mean a command says, for each kind of status: the command, the files, and what was written.
-use Rattle.std.specs.Prelude.{◌≡◌, ℕ, ◌⊎◌, Bool, IsTrue, List, Option, None, Some, is_some, Ok, Err}
+use Rattle.std.specs.Prelude.{◌≡◌, ℕ, ◌⊎◌, Bool, IsTrue, List, Option, None, Some, Ok, Err}
 use Rattle.sec_base.specs.Faults.{appended}
 use Rattle.refine_board.specs.Running.{Written}
 use Rattle.sec_cli.specs.declared.ending.Answer.{Answer}
 use Rattle.sec_cli.specs.declared.ending.Refusal.{Refusal}
-use Rattle.command_line.specs.Asked.{Asked, ForCheck, ForReplay, ForVerify, ForDemo}
-use Rattle.sec_cli.specs.Endings.{Ending, IsCheckEnding, IsReplayEnding, IsVerifyEnding, IsDemoEnding, refines, journal_of, left_name, right_name, third_name, failed_names}
+use Rattle.sec_cli.specs.declared.ending.Refusal.TheVariants.{Memory}
+use Rattle.command_line.specs.Asked.{Asked, ForCheck, ForReplay, ForVerify, ForDemo, ForClimb, ForReduce, ForBatch}
+use Rattle.sec_cli.specs.Endings.{Ending, IsCheckEnding, IsReplayEnding, IsVerifyEnding, IsDemoEnding, IsClimbEnding, HasJournal, journal_of, left_name, right_name, third_name, failed_names}
 use Rattle.sec_cli.specs.Reports.{World, IsTold, IsStored, IsUnprinted, IsUnstoredAs, store_name, refusal_status, told_of}
 
 -- how the command ended over these files, where the shelf tells them; a demo reads none
@@ -14,6 +15,9 @@ Ended tells file (ForCheck c) e = IsTrue tells → IsCheckEnding (file c.left) (
 Ended tells file (ForReplay c) e = IsTrue tells → IsReplayEnding c.tied (file c.left) (file c.right) (file c.trace) e
 Ended tells file (ForVerify c) e = IsTrue tells → IsVerifyEnding c.tied (file c.left) (file c.right) (file c.cert) e
 Ended tells file (ForDemo d) e = IsDemoEnding d e
+Ended tells file (ForClimb c) e = IsTrue tells → IsClimbEnding (file c.left) (file c.right) c e
+Ended tells file (ForReduce r) e = e ≡ Err Memory
+Ended tells file (ForBatch b) e = e ≡ Err Memory
 
 -- the journal is that of the command's answer, and there is none where the command answered nothing
 abbrev pub IsJournalOfEnding : Bool → (List ℕ → Option (List ℕ)) → Asked → Option Written → Type 0
@@ -30,7 +34,7 @@ pub record IsAnswered (tells : Bool) (c : Asked) (status : ℕ) (journal : Optio
   pub ended : Ended tells before.files c (Ok answer)
   pub status_is : answer.status ≡ status
   pub journal_is : answer.journal ≡ journal
-  pub refined : is_some journal ≡ refines c status
+  pub refined : HasJournal c status journal
   pub stored : IsStored tells before.files after.files (store_name c answer.status) answer.file.items
   pub printed : after.out ≡ appended before.out answer.text.items
 
@@ -54,5 +58,5 @@ pub record IsUnwritten (tells : Bool) (c : Asked) (journal : Option Written) (be
   pub answer : Answer
   pub ended : Ended tells before.files c (Ok answer)
   pub journal_is : answer.journal ≡ journal
-  pub refined : is_some journal ≡ refines c answer.status
+  pub refined : HasJournal c answer.status journal
   pub failed : IsUnprinted tells (store_name c answer.status) answer before after ⊎ IsUnstoredAs (store_name c answer.status) before after

@@ -1,17 +1,18 @@
 // One run: its words, its files, and what is written of it.
 ghost use Rattle.std.specs.Prelude.{◌≡◌, ◌≢◌, ◌≤◌, ◌<◌, ◌⊎◌, ℕ, List, [], ◌∷◌, IsTrue, IsSomeAnd, MatchBool, None, is_some, IfOk};
 ghost use Rattle.sec_base.specs.Faults.{Rose, appended};
-ghost use Rattle.command_line.specs.Asked.{asked_of, check_asked, IsCheckWithin, IsDemoWithin, IsWithin};
+ghost use Rattle.command_line.specs.Asked.{Asked, ForClimb, asked_of, check_asked, climb_asked, IsCheckWithin, IsClimbWithin, IsDemoWithin, IsWithin};
 ghost use Rattle.command_line.specs.Meant.{meant, AreNoCommand};
 ghost use Rattle.command_line.specs.Plain.{texts};
 ghost use Rattle.sec_cli.specs.Answers.{is_refined};
 ghost use Rattle.sec_cli.specs.Texts.{usage_text, memory_text};
-ghost use Rattle.sec_cli.specs.Endings.{Ending, IsCheckEnding, IsReplayEnding, IsVerifyEnding, IsDemoEnding, IsLoadEnding, refines, journal_of, failed_names, left_name, right_name, third_name};
+ghost use Rattle.sec_cli.specs.Endings.{Ending, IsCheckEnding, IsReplayEnding, IsVerifyEnding, IsDemoEnding, IsClimbEnding, IsLoadEnding, HasJournal, journal_of, failed_names, left_name, right_name, third_name};
 ghost use Rattle.sec_cli.specs.Reports.{IsTold, IsReport, refusal_status, told_of};
 ghost use Rattle.sec_cli.specs.OneAnswer.{IsOneAnswer};
 ghost use Rattle.sec_cli.specs.Runs.{Ended, IsAnswered, IsJournalOfWords, IsRefused, IsUnread, IsUnwritten};
 
 use crate::checking::check_pair;
+use crate::climbing::climb_pair;
 use crate::delivering::deliver;
 use crate::demo::demo_answer;
 use crate::ending::{Answer, Refusal};
@@ -19,7 +20,7 @@ use crate::loading::load_pair;
 use crate::replaying::replay;
 use crate::telling::{refusal_status, tell, tell_refusal};
 use crate::verifying::verify_file;
-use command_line::{Check, Command, Demo, Unread, read_words};
+use command_line::{Check, Climb, Command, Demo, Unread, read_words};
 use refine_board::Journal;
 use sec_base::{Gate, Shelf, Sink};
 use std::alloc::Global;
@@ -31,13 +32,14 @@ use std::thread::Threads;
 #[derive(Drop)]
 pub struct Report {
     pub status: u8,
-    /// The journal of the refinement, with 0 and 2 of `check` and `demo`, and with 6 where their verdict isn't a difference.
-    /// With 7 it may be there, where the file of such a verdict found no memory.
+    /// The journal of the refinement, with 0 and 2 of `check` and `demo`, and with 6 where their verdict isn't a difference; of
+    /// `climb` that of the last refinement, with a difference too where there was one before it. With 7 it may be there, where the
+    /// file of such a verdict found no memory.
     pub journal: Option<Journal>,
 }
 
 const USAGE: &str =
-    "usage: sec check LEFT RIGHT [-k K] [-d D] [-j J] [--classes] [--stats] [--trace FILE] [--cert FILE] [--tie] [--least]\n       sec replay LEFT RIGHT TRACE [--tie]\n       sec verify LEFT RIGHT CERT [--tie]\n       sec demo N [-k K] [-j J]\n";
+    "usage: sec check LEFT RIGHT [-k K] [-d D] [-j J] [--classes] [--stats] [--trace FILE] [--cert FILE] [--tie] [--least]\n       sec replay LEFT RIGHT TRACE [--tie]\n       sec verify LEFT RIGHT CERT [--tie]\n       sec demo N [-k K] [-j J]\n       sec climb LEFT RIGHT [-m M] [-j J] [--least]\n";
 
 // The answer of a check of two files.
 fn check_files<R: Threads + Wait + Sync, S: Shelf, G: Gate>(
@@ -136,6 +138,35 @@ fn demo_ending<R: Threads + Wait + Sync, G: Gate>(
     }
 }
 
+// The answer of a climb over two files.
+fn climb_files<R: Threads + Wait + Sync, S: Shelf, G: Gate>(
+    rt: &R,
+    alloc: Global,
+    shelf: &mut S,
+    left: &str,
+    right: &str,
+    c: &Climb,
+    gate: &G,
+) -> Result<Answer, Refusal>
+    requires { IsClimbWithin (climb_asked c.now) }
+    ensures ending { IsTrue S.tells → IsClimbEnding (S.file shelf.old left.now) (S.file shelf.old right.now) (climb_asked c.now) result }
+    ensures status { IfOk result (λ a. a.status ≤ 2) }
+    ensures journal { IfOk result (λ a. HasJournal (ForClimb (climb_asked c.now)) a.status a.journal) }
+    ensures failed { IsLoadEnding result → Rose (S.load_faults shelf.old) (S.load_faults shelf.new) }
+    ensures files { S.file shelf.new ≡ S.file shelf.old }
+    ensures names { S.failed shelf.new ≡ appended (S.failed shelf.old) (failed_names left.now right.now [] result) }
+    ensures load_count { S.load_faults shelf.old ≤ S.load_faults shelf.new }
+    ensures store_count { S.store_faults shelf.new ≡ S.store_faults shelf.old }
+{
+    match load_pair(alloc, shelf, left, right, false) {
+        Err(unpaired) => Err(Refusal::Unpaired(unpaired)),
+        Ok(product) => match climb_pair(rt, alloc, &product, c, gate) {
+            Ok(answer) => Ok(answer),
+            Err(_) => Err(Refusal::Memory),
+        },
+    }
+}
+
 // The answer of a command.
 fn decide<R: Threads + Wait + Sync, S: Shelf, G: Gate>(
     rt: &R,
@@ -147,7 +178,7 @@ fn decide<R: Threads + Wait + Sync, S: Shelf, G: Gate>(
     requires { IsWithin (asked_of command) }
     ensures ending { Ended S.tells (S.file shelf.old) (asked_of command.entry) result }
     ensures status { IfOk result (λ a. a.status ≤ 2) }
-    ensures journal { IfOk result (λ a. is_some a.journal ≡ refines (asked_of command.entry) a.status) }
+    ensures journal { IfOk result (λ a. HasJournal (asked_of command.entry) a.status a.journal) }
     ensures failed { IsLoadEnding result → Rose (S.load_faults shelf.old) (S.load_faults shelf.new) }
     ensures files { S.file shelf.new ≡ S.file shelf.old }
     ensures names { S.failed shelf.new ≡ appended (S.failed shelf.old) (failed_names (left_name (asked_of command.entry)) (right_name (asked_of command.entry)) (third_name (asked_of command.entry)) result) }
@@ -159,6 +190,8 @@ fn decide<R: Threads + Wait + Sync, S: Shelf, G: Gate>(
         Command::Replay(c) => replay_files(alloc, shelf, c.left, c.right, c.trace, c.tied),
         Command::Verify(c) => verify_files(alloc, shelf, c.left, c.right, c.cert, c.tied),
         Command::Demo(d) => demo_ending(rt, alloc, &d, gate),
+        Command::Climb(c) => climb_files(rt, alloc, shelf, c.left, c.right, &c, gate),
+        Command::Reduce(_) | Command::Batch(_) => Err(Refusal::Memory),
     }
 }
 
@@ -183,8 +216,16 @@ fn refuse<E: Sink>(command: Command, refusal: Refusal, err: &mut E) -> u8
             tell_refusal(err, c.left, c.right, cert, refusal);
             refusal_status(refusal)
         }
-        Command::Demo(_) => {
+        Command::Reduce(r) => {
+            tell_refusal(err, r.net, "", "", refusal);
+            refusal_status(refusal)
+        }
+        Command::Demo(_) | Command::Batch(_) => {
             tell_refusal(err, "", "", "", refusal);
+            refusal_status(refusal)
+        }
+        Command::Climb(c) => {
+            tell_refusal(err, c.left, c.right, "", refusal);
             refusal_status(refusal)
         }
     }
@@ -202,7 +243,7 @@ fn perform<R: Threads + Wait + Sync, S: Shelf, O: Sink, E: Sink, G: Gate>(
 ) -> Report
     requires { IsWithin (asked_of command) }
     ensures reported { (e : Ending) × Ended S.tells (S.file shelf.old) (asked_of command.entry) e × IfOk e (λ a. a.status ≤ 2)
-        × IfOk e (λ a. is_some a.journal ≡ refines (asked_of command.entry) a.status) × (result.journal ≡ journal_of e)
+        × IfOk e (λ a. HasJournal (asked_of command.entry) a.status a.journal) × (result.journal ≡ journal_of e)
         × (IsLoadEnding e → Rose (S.load_faults shelf.old) (S.load_faults shelf.new))
         × (S.failed shelf.new ≡ appended (S.failed shelf.old) (failed_names (left_name (asked_of command.entry)) (right_name (asked_of command.entry)) (third_name (asked_of command.entry)) e))
         × IsReport S.tells (asked_of command.entry) e
@@ -231,12 +272,13 @@ fn perform<R: Threads + Wait + Sync, S: Shelf, O: Sink, E: Sink, G: Gate>(
 
 /// One run of the program over these words, of which the first is its own name: `check LEFT RIGHT [-k K] [-d D] [-j J]
 /// [--classes] [--stats] [--trace FILE] [--cert FILE] [--tie] [--least]`, `replay LEFT RIGHT TRACE [--tie]`,
-/// `verify LEFT RIGHT CERT [--tie]` or `demo N [-k K] [-j J]`.
+/// `verify LEFT RIGHT CERT [--tie]`, `demo N [-k K] [-j J]` or `climb LEFT RIGHT [-m M] [-j J] [--least]`.
 /// `check` decides by signal correspondence with k-induction (van Eijk, IEEE TCAD 19(7), 2000; Sheeran, Singh, Stålmarck,
 /// FMCAD 2000), and where that leaves outputs unpaired by a search for a difference in the first k frames, or the first D where
 /// these are more; `replay` tells the first difference of a stored trace;
-/// `verify` reads a stored certificate, without solver or threads; `demo` checks a pair of any size that it makes itself.
-/// `check` and `demo` refine the classes by J workers, in threads that `rt` starts; they may wait for one another, and the
+/// `verify` reads a stored certificate, without solver or threads; `demo` checks a pair of any size that it makes itself; `climb`
+/// checks with induction over 1, 2, .. frames, up to the first that decides, or to M.
+/// `check`, `demo` and `climb` refine the classes by J workers, in threads that `rt` starts; they may wait for one another, and the
 /// gate may hold them. The verdict and the classes are the same however they go on; with `--least` so is the trace of a difference.
 /// With `--tie` the free latches of both netlists start equal, in their order.
 pub fn run<R: Threads + Wait + Sync, S: Shelf, O: Sink, E: Sink, G: Gate>(
@@ -260,7 +302,7 @@ pub fn run<R: Threads + Wait + Sync, S: Shelf, O: Sink, E: Sink, G: Gate>(
         (record { files = S.file shelf.old; store_faults = S.store_faults shelf.old; out = O.taken out.old; out_faults = O.faults out.old; err = E.taken err.old; err_faults = E.faults err.old })
         (record { files = S.file shelf.new; store_faults = S.store_faults shelf.new; out = O.taken out.new; out_faults = O.faults out.new; err = E.taken err.new; err_faults = E.faults err.new })) }
 
-    // With `--least` and without `--stats` it is the only answer: what is printed, and the trace that is stored, are one function of
+    // With `--least`, and without `--stats`, it is the only answer: what is printed, and the trace that is stored, are one function of
     // the files and the words.
     ensures one_answer { result.status ≤ 2 → IsSomeAnd (meant (texts words.now)) (λ c. IsOneAnswer S.tells c result.status
         (record { files = S.file shelf.old; store_faults = S.store_faults shelf.old; out = O.taken out.old; out_faults = O.faults out.old; err = E.taken err.old; err_faults = E.faults err.old })

@@ -73,7 +73,12 @@ fn store_name<'w>(command: Command<'w>, status: u8) -> Option<&'w str>
                 None
             }
         }
-        Command::Replay(_) | Command::Verify(_) | Command::Demo(_) => None,
+        Command::Replay(_)
+        | Command::Verify(_)
+        | Command::Demo(_)
+        | Command::Climb(_)
+        | Command::Reduce(_)
+        | Command::Batch(_) => None,
     }
 }
 

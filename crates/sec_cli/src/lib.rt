@@ -2,6 +2,7 @@
 #![tactic(auto)]
 
 mod checking;
+mod climbing;
 mod command;
 mod counting;
 mod delivering;

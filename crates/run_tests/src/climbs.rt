@@ -1,0 +1,93 @@
+use crate::runs::{DELAY, LOW, MASKED, RING, Row, TOGGLE, answers_so, case, shelf_of, words_of};
+use sec_base::{FreeGate, MemSink};
+use sec_cli::run;
+use std::alloc::{AllocError, Global};
+use std::sync::Wait;
+use std::test::Fail;
+use std::thread::Threads;
+
+#[test]
+fn a_climb_ends_at_the_first_depth_that_decides(rt: HostRuntime) -> Result<(), Fail> {
+    let alloc = rt.alloc();
+    let same = "equivalent k=1 signals=3 classes=2\n";
+    let second = "different k=2 frame=1 output=0\n1\nb0\n0\n\n\n.\n";
+    let third = "equivalent k=3 signals=5 classes=4\n";
+    let least = "different k=3 frame=2 output=0\n1\nb0\n0000\n0\n0\n0\n.\n";
+    let open = "undecided k=1 signals=2 classes=2 unpaired=0\n";
+    let two = "undecided k=2 signals=5 classes=5 unpaired=0\n";
+    for (words, left, right, status, out) in [
+        ("sec climb left right", TOGGLE, TOGGLE, 0, same),
+        ("sec climb left right", TOGGLE, LOW, 1, second),
+        ("sec climb left right -j 3", TOGGLE, LOW, 1, second),
+        ("sec climb left right -m 2", TOGGLE, LOW, 1, second),
+        ("sec climb left right -m 1", TOGGLE, LOW, 2, open),
+        ("sec climb left right", LOW, RING, 0, third),
+        ("sec climb left right -j 3", LOW, RING, 0, third),
+        ("sec climb left right -m 3", LOW, RING, 0, third),
+        ("sec climb left right -m 2", LOW, RING, 2, two),
+        ("sec climb left right --least", DELAY, MASKED, 1, least),
+        ("sec climb left right --least -j 3", DELAY, MASKED, 1, least),
+    ] {
+        assert!(rt;
+            answers_so(&rt, alloc, &case(words, left, right, status, out, ""))?,
+            "{words}"
+        );
+    }
+    Ok(())
+}
+
+#[test]
+fn a_climb_over_files_with_a_fault_is_refused(rt: HostRuntime) -> Result<(), Fail> {
+    let alloc = rt.alloc();
+    let (header, inputs) = (
+        "sec: right: header at byte 0\n",
+        "sec: inputs differ: 0 and 1\n",
+    );
+    for (right, err) in [("abc", header), (DELAY, inputs)] {
+        assert!(rt;
+            answers_so(
+                &rt,
+                alloc,
+                &case("sec climb left right", LOW, right, 4, "", err)
+            )?
+        );
+    }
+    Ok(())
+}
+
+// Whether a run returns a journal.
+fn has_journal<R: Threads + Wait + Sync>(
+    rt: &R,
+    alloc: Global,
+    row: &Row,
+) -> Result<bool, AllocError> {
+    let words = words_of(alloc, row.words)?;
+    let Some(mut shelf) = shelf_of(alloc, row, Vec::new(alloc)) else {
+        return Ok(false);
+    };
+    let (Ok(mut out), Ok(mut err)) = (
+        MemSink::with_room(alloc, 400, Vec::new(alloc)),
+        MemSink::with_room(alloc, 400, Vec::new(alloc)),
+    ) else {
+        return Ok(false);
+    };
+    let report = run(rt, alloc, &words, &mut shelf, &mut out, &mut err, &FreeGate);
+    Ok(report.journal.is_some())
+}
+
+#[test]
+fn a_climb_returns_the_journal_of_its_last_refinement(rt: HostRuntime) -> Result<(), Fail> {
+    let alloc = rt.alloc();
+    let input = "aag 1 1 0 1 0\n2\n2\n";
+    let turned = "aag 1 1 0 1 0\n2\n3\n";
+    for (left, right, some) in [
+        (TOGGLE, TOGGLE, true),
+        (TOGGLE, LOW, true),
+        (LOW, RING, true),
+        (input, turned, false),
+    ] {
+        let row = case("sec climb left right", left, right, 0, "", "");
+        assert_eq!(rt; has_journal(&rt, alloc, &row)?, some);
+    }
+    Ok(())
+}

@@ -1,0 +1,88 @@
+-- A climb from one depth of the induction to the next.
+use Rattle.std.proofs.Common.{◌≡◌, ◌≢◌, ◌<◌, ◌≤◌, ◌+◌, ◌==◌, ◌∙◌, ℕ, Bool, true, false, not, List, Option, None, Some, is_some, IsTrue, IsSomeAnd, MatchBool, refl, ap, sym, subst, arith, eqb-true}
+use Rattle.std.proofs.lemmas.Bool.{ne_eqb}
+use Rattle.circ_model.specs.Meaning.{Pair}
+use Rattle.circ_model.specs.Verdict.{Verdict, Equivalent, Different, Undecided}
+use Rattle.refine_board.specs.Running.{Written}
+use Rattle.command_line.specs.Asked.{CheckAsked, ClimbAsked, ForClimb}
+use Rattle.sec_cli.specs.declared.ending.Answer.{Answer}
+use Rattle.sec_cli.specs.Answers.{IsCheckAnswer, IsJournalOf, IsRefinedText, IsVerdictText, IsVerdictAnswer, is_refined, status_of_verdict}
+use Rattle.sec_cli.specs.Climbs.{IsOpen, IsLastTried, IsJournalBefore, IsClimbAnswer, check_of_climb}
+use Rattle.sec_cli.specs.Endings.{HasJournal}
+
+-- nothing was decided below this depth, and this is the journal of the refinement before it
+pub record IsSoFar (pair : Pair) (c : ClimbAsked) (k : ℕ) (before : Option Written) : Type 0 where
+  pub some : 0 < k
+  pub few : k ≤ c.most
+  pub below : (j : ℕ) → 0 < j → j < k → IsOpen pair j
+  pub journal : IsJournalBefore pair c k before
+
+pub begins : (pair : Pair) (c : ClimbAsked) → 0 < c.most → IsSoFar pair c 1 None
+begins pair c some = record { some = omega arith; few = omega (arith, some); below = λ j from lt. absurd (omega (arith, from, lt)); journal = refl }
+
+open_at : (pair : Pair) (c : ClimbAsked) (k : ℕ) (a : Answer) → IsCheckAnswer pair (check_of_climb c k) a → a.status ≡ 2 → IsOpen pair k
+open_at pair c k a (Equivalent n, is, status, text) two = absurd (omega (arith, status, two))
+open_at pair c k a (Different t j, is, status, text) two = absurd (omega (arith, status, two))
+open_at pair c k a (Undecided n u, is, status, text) two = (n, u, is)
+
+journal_in : (pair : Pair) (c : ClimbAsked) (k : ℕ) (line text : List ℕ) (o : Option Written) → 0 < k → IsSomeAnd o (λ j. IsRefinedText pair (check_of_climb c k) j.entries line text) → IsJournalBefore pair c (k + 1) o
+journal_in pair c k line text None some h = absurd h
+journal_in pair c k line text (Some j) some h = (k, some, refl, h.journal)
+
+journal_at : (pair : Pair) (c : ClimbAsked) (k : ℕ) (a : Answer) → 0 < k → IsCheckAnswer pair (check_of_climb c k) a → a.status ≡ 2 → IsJournalBefore pair c (k + 1) a.journal
+journal_at pair c k a some (Equivalent n, is, status, text) two = absurd (omega (arith, status, two))
+journal_at pair c k a some (Different t j, is, status, text) two = absurd (omega (arith, status, two))
+journal_at pair c k a some (Undecided n u, is, status, text) two = journal_in pair c k _ _ a.journal some text
+
+-- one depth more
+pub goes_on : (pair : Pair) (c : ClimbAsked) (k : ℕ) (before : Option Written) (a : Answer) → IsSoFar pair c k before → k < c.most → IsCheckAnswer pair (check_of_climb c k) a → a.status ≡ 2 → IsSoFar pair c (k + 1) a.journal
+goes_on pair c k before a so lt is two = record {
+  some = omega arith;
+  few = omega (arith, lt);
+  below = λ j from less. go j from less (j == k) refl;
+  journal = journal_at pair c k a so.some is two;
+}
+  where
+    go : (j : ℕ) → 0 < j → j < k + 1 → (b : Bool) → (j == k) ≡ b → IsOpen pair j
+    go j from less true e = subst (IsOpen pair) (sym (eqb-true j k e)) (open_at pair c k a is two)
+    go j from less false e = so.below j from (omega (arith, less, λ (h : j ≡ k). differs j h e))
+      where
+        differs : (i : ℕ) → i ≡ k → (i == k) ≡ false → ⊥
+        differs i h e = grind (arith, h, e)
+
+-- the text of a difference speaks of no journal
+any_journal : (pair : Pair) (c : CheckAsked) (v : Verdict) (text file : List ℕ) (o p : Option Written) → status_of_verdict v ≡ 1 → IsVerdictText pair c v text file o → IsVerdictText pair c v text file p
+any_journal pair c (Equivalent n) text file o p one h = absurd (omega (arith, one))
+any_journal pair c (Different t j) text file o p one h = h
+any_journal pair c (Undecided n u) text file o p one h = absurd (omega (arith, one))
+
+-- an answer that ends the climb, with the journal that is due
+pub ends : (pair : Pair) (c : ClimbAsked) (k : ℕ) (before : Option Written) (a b : Answer) → IsSoFar pair c k before → (a.status ≡ 2 → k ≡ c.most) → IsCheckAnswer pair (check_of_climb c k) a
+    → b.status ≡ a.status → b.text.items ≡ a.text.items → b.file.items ≡ a.file.items → MatchBool (a.status == 1) (b.journal ≡ before) (b.journal ≡ a.journal) → IsClimbAnswer pair c b
+ends pair c k before a b so end (v, is, status, text) same_status same_text same_file journal = go (a.status == 1) refl journal
+  where
+    with_text : (o : Option Written) → IsVerdictText pair (check_of_climb c k) v a.text.items a.file.items o → b.journal ≡ o → IsCheckAnswer pair (check_of_climb c k) b
+    with_text o h e =
+        let stored : IsVerdictText pair (check_of_climb c k) v a.text.items b.file.items o = subst (λ (f : List ℕ). IsVerdictText pair (check_of_climb c k) v a.text.items f o) (sym same_file) h in
+        let printed : IsVerdictText pair (check_of_climb c k) v b.text.items b.file.items o = subst (λ (t : List ℕ). IsVerdictText pair (check_of_climb c k) v t b.file.items o) (sym same_text) stored in
+        (v, is, same_status ∙ status, subst (IsVerdictText pair (check_of_climb c k) v b.text.items b.file.items) (sym e) printed)
+
+    last : IsLastTried pair c.most k b.status
+    last = record { some = so.some; few = so.few; below = so.below; ends = λ two. end (sym same_status ∙ two) }
+
+    go : (x : Bool) → (a.status == 1) ≡ x → MatchBool x (b.journal ≡ before) (b.journal ≡ a.journal) → IsClimbAnswer pair c b
+    go true e j =
+        let one : status_of_verdict v ≡ 1 = sym status ∙ eqb-true a.status 1 e in
+        (k, last, with_text before (any_journal pair (check_of_climb c k) v a.text.items a.file.items a.journal before one text) j, λ h. subst (IsJournalBefore pair c k) (sym j) so.journal)
+    go false e j = (k, last, with_text a.journal text j, λ h. absurd (not_one (sym same_status ∙ h) e))
+      where
+        not_one : a.status ≡ 1 → (a.status == 1) ≡ false → ⊥
+        not_one h e = let bad : true ≡ false = sym (ap (λ (s : ℕ). s == 1) h) ∙ e in cc
+
+pub has_journal : (c : ClimbAsked) (before : Option Written) (a b : Answer) → is_some a.journal ≡ is_refined a.status → b.status ≡ a.status → MatchBool (a.status == 1) (b.journal ≡ before) (b.journal ≡ a.journal)
+    → HasJournal (ForClimb c) b.status b.journal
+has_journal c before a b has same journal other = go (a.status == 1) refl journal
+  where
+    go : (x : Bool) → (a.status == 1) ≡ x → MatchBool x (b.journal ≡ before) (b.journal ≡ a.journal) → IsTrue (is_some b.journal)
+    go true e j = absurd (other (same ∙ eqb-true a.status 1 e))
+    go false e j = ap is_some j ∙ has ∙ ap not e
