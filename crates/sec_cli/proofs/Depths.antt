@@ -1,12 +1,11 @@
 -- A climb from one depth of the induction to the next.
-use Rattle.std.proofs.Common.{◌≡◌, ◌≢◌, ◌<◌, ◌≤◌, ◌+◌, ◌==◌, ◌∙◌, ℕ, Bool, true, false, not, List, Option, None, Some, is_some, IsTrue, IsSomeAnd, MatchBool, refl, ap, sym, subst, arith, eqb-true}
-use Rattle.std.proofs.lemmas.Bool.{ne_eqb}
+use Rattle.std.proofs.Common.{◌≡◌, ◌<◌, ◌≤◌, ◌+◌, ◌==◌, ◌∙◌, ℕ, Bool, true, false, not, List, Option, None, Some, is_some, IsTrue, IsSomeAnd, MatchBool, refl, ap, sym, subst, arith, eqb-true}
 use Rattle.circ_model.specs.Meaning.{Pair}
 use Rattle.circ_model.specs.Verdict.{Verdict, Equivalent, Different, Undecided}
 use Rattle.refine_board.specs.Running.{Written}
 use Rattle.command_line.specs.Asked.{CheckAsked, ClimbAsked, ForClimb}
 use Rattle.sec_cli.specs.declared.ending.Answer.{Answer}
-use Rattle.sec_cli.specs.Answers.{IsCheckAnswer, IsJournalOf, IsRefinedText, IsVerdictText, IsVerdictAnswer, is_refined, status_of_verdict}
+use Rattle.sec_cli.specs.Answers.{IsCheckAnswer, IsRefinedText, IsVerdictText, is_refined, status_of_verdict}
 use Rattle.sec_cli.specs.Climbs.{IsOpen, IsLastTried, IsJournalBefore, IsClimbAnswer, check_of_climb}
 use Rattle.sec_cli.specs.Endings.{HasJournal}
 

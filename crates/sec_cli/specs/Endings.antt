@@ -13,7 +13,8 @@ use Rattle.trace_witness.specs.Texts.{trace_of}
 use Rattle.refine_board.specs.Running.{Written}
 use Rattle.sec_cli.specs.Answers.{IsCheckAnswer, IsReplayAnswer, IsVerifyAnswer, IsDemoAnswer, is_refined}
 use Rattle.sec_cli.specs.Climbs.{IsClimbAnswer}
-use Rattle.command_line.specs.Asked.{Asked, ForCheck, ForReplay, ForVerify, ForDemo, ForClimb, ForReduce, ForBatch, CheckAsked, ClimbAsked}
+use Rattle.sec_cli.specs.Reductions.{IsReduceAnswer}
+use Rattle.command_line.specs.Asked.{Asked, ForCheck, ForReplay, ForVerify, ForDemo, ForClimb, ForReduce, ForBatch, CheckAsked, ClimbAsked, ReduceAsked}
 use Rattle.command_line.specs.declared.command.Demo.{Demo}
 use Rattle.sec_cli.specs.declared.ending.Answer.{Answer}
 use Rattle.sec_cli.specs.declared.ending.Refusal.{Refusal}
@@ -134,6 +135,27 @@ IsClimbEnding left right c (Err refusals.ThirdFailed) = ⊥
 IsClimbEnding left right c (Err refusals.ThirdTooLong) = ⊥
 IsClimbEnding left right c (Err (refusals.TraceRefused f)) = ⊥
 IsClimbEnding left right c (Err (refusals.CertRefused f)) = ⊥
+
+-- why there is no netlist of a file
+abbrev pub IsNoNetlist : Option (List ℕ) → Unpaired → Type 0
+IsNoNetlist file unpaired.Memory = Unit {0}
+IsNoNetlist file (unpaired.LoadFailed Left) = Unit {0}
+IsNoNetlist file (unpaired.Refused Left f) = IsRefused file f
+IsNoNetlist file (unpaired.LoadFailed Right) = ⊥
+IsNoNetlist file (unpaired.Refused Right f) = ⊥
+IsNoNetlist file (unpaired.InputsDiffer a b) = ⊥
+IsNoNetlist file (unpaired.OutputsDiffer a b) = ⊥
+IsNoNetlist file (unpaired.FreeDiffer a b) = ⊥
+
+-- how the reduction of a file's netlist ends
+abbrev pub IsReduceEnding : Option (List ℕ) → ReduceAsked → Ending → Type 0
+IsReduceEnding file r (Err refusals.Memory) = Unit {0}
+IsReduceEnding file r (Err (refusals.Unpaired u)) = IsNoNetlist file u
+IsReduceEnding file r (Ok a) = (net : Netlist) × IsAccepted file net × IsReduceAnswer net r a
+IsReduceEnding file r (Err refusals.ThirdFailed) = ⊥
+IsReduceEnding file r (Err refusals.ThirdTooLong) = ⊥
+IsReduceEnding file r (Err (refusals.TraceRefused f)) = ⊥
+IsReduceEnding file r (Err (refusals.CertRefused f)) = ⊥
 
 -- and how the replay of a third file on them ends
 abbrev pub IsReplayEnding : Bool → Option (List ℕ) → Option (List ℕ) → Option (List ℕ) → Ending → Type 0

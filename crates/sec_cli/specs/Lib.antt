@@ -3,6 +3,7 @@ pub mod Texts
 pub mod Outputs
 pub mod Answers
 pub mod Climbs
+pub mod Reductions
 pub mod Endings
 pub mod Reports
 pub mod Runs

@@ -13,6 +13,12 @@ use Rattle.sec_cli.specs.declared.counting.Stats.{Stats}
 abbrev pub equivalent_line : ℕ → ℕ → ℕ → List ℕ
 equivalent_line k signals classes = codes "equivalent k=" ++ (decimal k ++ (codes " signals=" ++ (decimal signals ++ (codes " classes=" ++ (decimal classes ++ codes "\n")))))
 
+-- a reduced netlist, with the signals and classes of the pair with its stub, and the latches and gates that stay
+abbrev pub reduced_line : ℕ → ℕ → ℕ → ℕ → ℕ → List ℕ
+reduced_line k signals classes latches gates =
+    codes "reduced k=" ++ (decimal k ++ (codes " signals=" ++ (decimal signals ++ (codes " classes=" ++ (decimal classes
+    ++ (codes " latches=" ++ (decimal latches ++ (codes " gates=" ++ (decimal gates ++ codes "\n")))))))))
+
 abbrev pub undecided_head : ℕ → ℕ → ℕ → List ℕ
 undecided_head k signals classes = codes "undecided k=" ++ (decimal k ++ (codes " signals=" ++ (decimal signals ++ (codes " classes=" ++ (decimal classes ++ codes " unpaired=")))))
 
@@ -90,4 +96,4 @@ abbrev pub memory_text : List ℕ
 memory_text = codes "sec: out of memory\n"
 
 abbrev pub usage_text : List ℕ
-usage_text = codes "usage: sec check LEFT RIGHT [-k K] [-d D] [-j J] [--classes] [--stats] [--trace FILE] [--cert FILE] [--tie] [--least]\n       sec replay LEFT RIGHT TRACE [--tie]\n       sec verify LEFT RIGHT CERT [--tie]\n       sec demo N [-k K] [-j J]\n       sec climb LEFT RIGHT [-m M] [-j J] [--least]\n"
+usage_text = codes "usage: sec check LEFT RIGHT [-k K] [-d D] [-j J] [--classes] [--stats] [--trace FILE] [--cert FILE] [--tie] [--least]\n       sec replay LEFT RIGHT TRACE [--tie]\n       sec verify LEFT RIGHT CERT [--tie]\n       sec demo N [-k K] [-j J]\n       sec climb LEFT RIGHT [-m M] [-j J] [--least]\n       sec reduce NET OUT [-k K] [-j J] [--binary]\n"

@@ -10,6 +10,7 @@ mod demo;
 mod ending;
 mod lines;
 mod loading;
+mod reducing;
 mod replaying;
 mod telling;
 mod texts;

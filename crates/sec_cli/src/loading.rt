@@ -16,8 +16,12 @@ use std::alloc::Global;
 
 const LONGEST_NETLIST: u64 = 67108864;
 
-// The netlist of a file.
-fn load_netlist<S: Shelf>(alloc: Global, shelf: &mut S, name: &str) -> Result<Netlist, Unread>
+/// The netlist of a file.
+pub(crate) fn load_netlist<S: Shelf>(
+    alloc: Global,
+    shelf: &mut S,
+    name: &str,
+) -> Result<Netlist, Unread>
     ensures read { IsTrue S.tells → IsRead (S.file shelf.old name.now) result }
     ensures failed { IsErrOf result Unread.Failed → Rose (S.load_faults shelf.old) (S.load_faults shelf.new) }
     ensures files { S.file shelf.new ≡ S.file shelf.old }
@@ -41,8 +45,8 @@ fn load_netlist<S: Shelf>(alloc: Global, shelf: &mut S, name: &str) -> Result<Ne
     }
 }
 
-// There is no netlist of this file, and so no pair.
-fn unread_as(side: Side, unread: Unread) -> Unpaired
+/// There is no netlist of this file, and so no pair.
+pub(crate) fn unread_as(side: Side, unread: Unread) -> Unpaired
     ensures { result ≡ unread_as side unread }
 {
     match unread {
