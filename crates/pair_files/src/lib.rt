@@ -6,4 +6,4 @@ mod fault;
 mod loading;
 
 pub use fault::{Side, Unpaired, Unread};
-pub use loading::{LONGEST_NETLIST, load_netlist, load_pair};
+pub use loading::{LONGEST_NETLIST, load_netlist, load_pair, unread_as};

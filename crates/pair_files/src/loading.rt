@@ -44,8 +44,8 @@ pub fn load_netlist<S: Shelf>(alloc: Global, shelf: &mut S, name: &str) -> Resul
     }
 }
 
-// There is no netlist of this file, and so no pair.
-fn unread_as(side: Side, unread: Unread) -> Unpaired
+/// There is no netlist of this file, and so no pair.
+pub fn unread_as(side: Side, unread: Unread) -> Unpaired
     ensures { result ≡ unread_as side unread }
 {
     match unread {

@@ -15,6 +15,8 @@ mod hostile;
 #[cfg(test)]
 mod plain;
 #[cfg(test)]
+mod reduces;
+#[cfg(test)]
 mod runs;
 #[cfg(test)]
 mod words;

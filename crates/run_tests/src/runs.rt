@@ -61,7 +61,7 @@ pub(crate) fn shelf_of(alloc: Global, row: &Row, fails: Vec<u64>) -> Option<MemS
 
 // Runs over a shelf and sinks in memory, of which the calls that are listed fail, and answers the shelf where all is as the row
 // has it.
-fn run_so<R: Threads + Wait + Sync>(
+pub(crate) fn run_so<R: Threads + Wait + Sync>(
     rt: &R,
     alloc: Global,
     row: &Row,
@@ -543,7 +543,7 @@ fn seven_workers_tell_the_same_each_time(rt: HostRuntime) -> Result<(), Fail> {
 fn words_that_are_no_command(rt: HostRuntime) -> Result<(), Fail> {
     let alloc = rt.alloc();
     let usage =
-        "usage: sec check LEFT RIGHT [-k K] [-d D] [-j J] [--classes] [--stats] [--trace FILE] [--cert FILE] [--tie] [--least]\n       sec replay LEFT RIGHT TRACE [--tie]\n       sec verify LEFT RIGHT CERT [--tie]\n       sec demo N [-k K] [-j J]\n       sec climb LEFT RIGHT [-m M] [-j J] [--least]\n";
+        "usage: sec check LEFT RIGHT [-k K] [-d D] [-j J] [--classes] [--stats] [--trace FILE] [--cert FILE] [--tie] [--least]\n       sec replay LEFT RIGHT TRACE [--tie]\n       sec verify LEFT RIGHT CERT [--tie]\n       sec demo N [-k K] [-j J]\n       sec climb LEFT RIGHT [-m M] [-j J] [--least]\n       sec reduce NET OUT [-k K] [-j J] [--binary]\n       sec batch LIST [-k K] [-j J]\n";
     for words in [
         "sec",
         "sec help",
@@ -632,7 +632,7 @@ fn a_trace_is_stored_before_it_is_printed(rt: HostRuntime) -> Result<(), Fail> {
 }
 
 // Whether the shelf holds these bytes under a name.
-fn holds(shelf: &Option<MemShelf>, name: &str, bytes: &[u8]) -> bool {
+pub(crate) fn holds(shelf: &Option<MemShelf>, name: &str, bytes: &[u8]) -> bool {
     match shelf {
         Some(shelf) => match shelf.get(name) {
             Some(file) => file == bytes,

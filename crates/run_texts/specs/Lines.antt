@@ -30,3 +30,9 @@ abbrev pub demo_line : ℕ → List ℕ
 demo_line n =
     codes "demo n=" ++ (decimal n ++ (codes " inputs=" ++ (decimal n ++ (codes " latches=" ++ (decimal n
     ++ (codes " gates=" ++ (decimal (6 * n) ++ (codes " outputs=" ++ (decimal n ++ codes "\n")))))))))
+
+-- a reduced netlist, with the signals and classes of the pair with its stub, and the latches and gates that stay
+abbrev pub reduced_line : ℕ → ℕ → ℕ → ℕ → ℕ → List ℕ
+reduced_line k signals classes latches gates =
+    codes "reduced k=" ++ (decimal k ++ (codes " signals=" ++ (decimal signals ++ (codes " classes=" ++ (decimal classes
+    ++ (codes " latches=" ++ (decimal latches ++ (codes " gates=" ++ (decimal gates ++ codes "\n")))))))))

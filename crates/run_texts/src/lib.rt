@@ -7,7 +7,7 @@ mod telling;
 mod texts;
 
 pub use lines::{
-    agrees_line, demo_line, different_line, differs_line, equivalent_line, push_numbers,
+    agrees_line, demo_line, different_line, differs_line, equivalent_line, push_numbers, reduced_line,
     undecided_head,
 };
 pub use telling::{

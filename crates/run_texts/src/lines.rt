@@ -1,6 +1,6 @@
 //! The lines that a run prints. Each is made whole before any of it is written.
 ghost use Rattle.std.specs.Prelude.{◌≡◌, ◌≤◌, ◌*◌, ◌++◌, codes, decimal, string_bytes, IfOk, OnOk};
-ghost use Rattle.run_texts.specs.Lines.{equivalent_line, undecided_head, with_commas, different_line, differs_line, agrees_line, demo_line};
+ghost use Rattle.run_texts.specs.Lines.{equivalent_line, reduced_line, undecided_head, with_commas, different_line, differs_line, agrees_line, demo_line};
 
 use std::alloc::{AllocError, Global};
 
@@ -23,6 +23,22 @@ pub fn equivalent_line(
     ensures { IfOk result (λ line. string_bytes line ≡ equivalent_line k signals classes) }
 {
     format!(in alloc; "equivalent k={k} signals={signals} classes={classes}\n")
+}
+
+/// The line of a reduced netlist.
+pub fn reduced_line(
+    alloc: Global,
+    k: u32,
+    signals: u32,
+    classes: u32,
+    latches: usize,
+    gates: usize,
+) -> Result<String, AllocError>
+    ensures { IfOk result (λ line. string_bytes line ≡ reduced_line k signals classes latches gates) }
+{
+    format!(in alloc;
+        "reduced k={k} signals={signals} classes={classes} latches={latches} gates={gates}\n"
+    )
 }
 
 /// The line of a verdict that leaves outputs unpaired, up to their numbers.

@@ -126,7 +126,7 @@ no_name_for (ForReplay c) status h = refl
 no_name_for (ForVerify c) status h = refl
 no_name_for (ForDemo d) status h = refl
 no_name_for (ForClimb c) status h = refl
-no_name_for (ForReduce r) status h = refl
+no_name_for (ForReduce r) status h = let q = ne_eqb status 0 (λ e. omega (arith, h, e)) in rw q refl
 no_name_for (ForBatch b) status h = refl
 no_name_for (ForCheck c) status h = let d = ne_eqb status 1 (λ e. omega (arith, h, e)) in let q = ne_eqb status 0 (λ e. omega (arith, h, e)) in rw d (rw q refl)
 
@@ -282,5 +282,5 @@ no_memory_journal tells files (Some (ForReplay c)) = (Err refusals.Memory, (λ _
 no_memory_journal tells files (Some (ForVerify c)) = (Err refusals.Memory, (λ _. tt), refl)
 no_memory_journal tells files (Some (ForDemo d)) = (Err refusals.Memory, tt, refl)
 no_memory_journal tells files (Some (ForClimb c)) = (Err refusals.Memory, (λ _. tt), refl)
-no_memory_journal tells files (Some (ForReduce r)) = (Err refusals.Memory, refl, refl)
+no_memory_journal tells files (Some (ForReduce r)) = (Err refusals.Memory, (λ _. tt), refl)
 no_memory_journal tells files (Some (ForBatch b)) = (Err refusals.Memory, (λ _. tt), refl)

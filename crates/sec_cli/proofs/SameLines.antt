@@ -1,7 +1,7 @@
 -- Class lines are determined by the greatest correspondence: whichever classes have it, they are spelled the same.
 use Rattle.std.proofs.Common.{◌≡◌, ◌∙◌, ◌<◌, ◌≤◌, ◌+◌, ◌==◌, ℕ, zero, suc, Bool, true, false, cond, List, [], ◌∷◌, ◌++◌, length, if◌then◌else◌, refl, ap, ap₂, sym, subst, arith, eqb-true, ltb, codes, filter, flat_map}
 use Rattle.std.specs.List.{range_with_len}
-use Rattle.circ_model.specs.Meaning.{Pair, signed, literal, places_of, bit}
+use Rattle.circ_model.specs.Meaning.{Pair, signed, literal, places_of}
 use Rattle.circ_model.proofs.Literals.{half_literal, value_of_literal}
 use Rattle.class_partition.specs.Classes.{Classes, least_of, phase_of, ArePartition, AreTogether, AreOfGreatest}
 use Rattle.class_partition.proofs.SameClasses.{pairs_of_places, same_classes, together_in_classes, together_in_greatest}

@@ -1,5 +1,6 @@
 -- How a run ends, before anything of it is written.
 use Rattle.std.specs.Prelude.{◌≡◌, ◌≢◌, ℕ, ◌<◌, ◌≤◌, ◌⊎◌, List, [], ◌∷◌, length, Bool, IsTrue, false, Option, None, is_some, IsSomeAnd, Result, Ok, Err}
+use Rattle.circ_model.specs.Netlist.{Netlist}
 use Rattle.circ_model.specs.Meaning.{Pair}
 use Rattle.corr_certificate.specs.Certificate.{IsChecked}
 use Rattle.corr_certificate.specs.declared.fault.Checked.TheVariants.{No}
@@ -8,12 +9,17 @@ use Rattle.trace_witness.specs.Texts.{trace_of}
 use Rattle.refine_board.specs.Running.{Written}
 use Rattle.sec_cli.specs.Answers.{IsCheckAnswer, IsReplayAnswer, IsVerifyAnswer, IsDemoAnswer, is_refined}
 use Rattle.sec_cli.specs.Climbs.{IsClimbAnswer}
-use Rattle.command_line.specs.Asked.{Asked, ForCheck, ForReplay, ForVerify, ForDemo, ForClimb, ForReduce, ForBatch, BatchAsked, CheckAsked, ClimbAsked}
+use Rattle.sec_cli.specs.Reductions.{IsReduceAnswer}
+use Rattle.command_line.specs.Asked.{Asked, ForCheck, ForReplay, ForVerify, ForDemo, ForClimb, ForReduce, ForBatch, BatchAsked, CheckAsked, ClimbAsked, ReduceAsked}
 use Rattle.command_line.specs.declared.command.Demo.{Demo}
 use Rattle.sec_cli.specs.declared.ending.Answer.{Answer}
 use Rattle.sec_cli.specs.declared.ending.Refusal.{Refusal}
 use Rattle.sec_cli.specs.declared.ending.Refusal.TheVariants as refusals
 use Rattle.batch_run.specs.Endings.{IsBatchEnding, IsFailed, failed_of}
+use Rattle.pair_files.specs.declared.fault.Side.TheVariants.{Left, Right}
+use Rattle.pair_files.specs.declared.fault.Unpaired.{Unpaired}
+use Rattle.pair_files.specs.declared.fault.Unpaired.TheVariants as unpaired
+use Rattle.pair_files.specs.Files.{IsAccepted, IsRefused}
 use Rattle.pair_files.specs.Pairs.{ArePair, IsNoPair, IsLoadFailed}
 use Rattle.pair_files.specs.Loads.{failed_side}
 
@@ -74,6 +80,28 @@ IsClimbEnding left right c (Err refusals.ThirdTooLong) = ⊥
 IsClimbEnding left right c (Err (refusals.TraceRefused f)) = ⊥
 IsClimbEnding left right c (Err (refusals.CertRefused f)) = ⊥
 IsClimbEnding left right c (Err (refusals.Unanswered u)) = ⊥
+
+-- why there is no netlist of a file
+abbrev pub IsNoNetlist : Option (List ℕ) → Unpaired → Type 0
+IsNoNetlist file unpaired.Memory = Unit {0}
+IsNoNetlist file (unpaired.LoadFailed Left) = Unit {0}
+IsNoNetlist file (unpaired.Refused Left f) = IsRefused file f
+IsNoNetlist file (unpaired.LoadFailed Right) = ⊥
+IsNoNetlist file (unpaired.Refused Right f) = ⊥
+IsNoNetlist file (unpaired.InputsDiffer a b) = ⊥
+IsNoNetlist file (unpaired.OutputsDiffer a b) = ⊥
+IsNoNetlist file (unpaired.FreeDiffer a b) = ⊥
+
+-- how the reduction of a file's netlist ends
+abbrev pub IsReduceEnding : Option (List ℕ) → ReduceAsked → Ending → Type 0
+IsReduceEnding file r (Err refusals.Memory) = Unit {0}
+IsReduceEnding file r (Err (refusals.Unpaired u)) = IsNoNetlist file u
+IsReduceEnding file r (Ok a) = (net : Netlist) × IsAccepted file net × IsReduceAnswer net r a
+IsReduceEnding file r (Err refusals.ThirdFailed) = ⊥
+IsReduceEnding file r (Err refusals.ThirdTooLong) = ⊥
+IsReduceEnding file r (Err (refusals.TraceRefused f)) = ⊥
+IsReduceEnding file r (Err (refusals.CertRefused f)) = ⊥
+IsReduceEnding file r (Err (refusals.Unanswered u)) = ⊥
 
 -- and how the replay of a third file on them ends
 abbrev pub IsReplayEnding : Bool → Option (List ℕ) → Option (List ℕ) → Option (List ℕ) → Ending → Type 0

@@ -2,6 +2,7 @@ pub mod Stats
 pub mod Texts
 pub mod Answers
 pub mod Climbs
+pub mod Reductions
 pub mod Endings
 pub mod Reports
 pub mod Runs

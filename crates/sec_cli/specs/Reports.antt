@@ -42,7 +42,7 @@ store_name (ForReplay c) status = None
 store_name (ForVerify c) status = None
 store_name (ForDemo d) status = None
 store_name (ForClimb c) status = None
-store_name (ForReduce r) status = None
+store_name (ForReduce r) status = if status == 0 then Some r.out else None
 store_name (ForBatch b) status = None
 
 -- all files but this one stay

@@ -6,7 +6,7 @@ use Rattle.sec_cli.specs.declared.ending.Answer.{Answer}
 use Rattle.sec_cli.specs.declared.ending.Refusal.{Refusal}
 use Rattle.sec_cli.specs.declared.ending.Refusal.TheVariants.{Memory}
 use Rattle.command_line.specs.Asked.{Asked, ForCheck, ForReplay, ForVerify, ForDemo, ForClimb, ForReduce, ForBatch}
-use Rattle.sec_cli.specs.Endings.{Ending, IsCheckEnding, IsReplayEnding, IsVerifyEnding, IsDemoEnding, IsClimbEnding, IsBatchEnded, HasJournal, journal_of, left_name, right_name, third_name, failed_names}
+use Rattle.sec_cli.specs.Endings.{Ending, IsCheckEnding, IsReplayEnding, IsVerifyEnding, IsDemoEnding, IsClimbEnding, IsReduceEnding, IsBatchEnded, HasJournal, journal_of, left_name, right_name, third_name, failed_names}
 use Rattle.run_texts.specs.Told.{IsTold}
 use Rattle.sec_cli.specs.Reports.{World, IsStored, IsUnprinted, IsUnstoredAs, store_name, refusal_status, told_of}
 
@@ -17,7 +17,7 @@ Ended tells file (ForReplay c) e = IsTrue tells → IsReplayEnding c.tied (file 
 Ended tells file (ForVerify c) e = IsTrue tells → IsVerifyEnding c.tied (file c.left) (file c.right) (file c.cert) e
 Ended tells file (ForDemo d) e = IsDemoEnding d e
 Ended tells file (ForClimb c) e = IsTrue tells → IsClimbEnding (file c.left) (file c.right) c e
-Ended tells file (ForReduce r) e = e ≡ Err Memory
+Ended tells file (ForReduce r) e = IsTrue tells → IsReduceEnding (file r.net) r e
 Ended tells file (ForBatch b) e = IsTrue tells → IsBatchEnded file b e
 
 -- the journal is that of the command's answer, and there is none where the command answered nothing

@@ -1,14 +1,14 @@
 // One run: its words, its files, and what is written of it.
 ghost use Rattle.std.specs.Prelude.{◌≡◌, ◌≢◌, ◌≤◌, ◌<◌, ◌⊎◌, ℕ, List, [], ◌∷◌, IsTrue, IsSomeAnd, MatchBool, None, is_some, IfOk};
 ghost use Rattle.sec_base.specs.Faults.{Rose, appended};
-ghost use Rattle.command_line.specs.Asked.{Asked, ForClimb, asked_of, check_asked, climb_asked, IsCheckWithin, IsClimbWithin, IsDemoWithin, IsWithin};
+ghost use Rattle.command_line.specs.Asked.{Asked, ForClimb, asked_of, check_asked, climb_asked, reduce_asked, IsCheckWithin, IsClimbWithin, IsDemoWithin, IsReduceWithin, IsWithin};
 ghost use Rattle.command_line.specs.Meant.{meant, AreNoCommand};
 ghost use Rattle.command_line.specs.Plain.{texts};
 ghost use Rattle.sec_cli.specs.Answers.{is_refined};
 ghost use Rattle.run_texts.specs.Texts.{memory_text};
 ghost use Rattle.run_texts.specs.Told.{IsTold};
 ghost use Rattle.sec_cli.specs.Texts.{usage_text};
-ghost use Rattle.sec_cli.specs.Endings.{Ending, IsCheckEnding, IsReplayEnding, IsVerifyEnding, IsDemoEnding, IsClimbEnding, IsLoadEnding, IsAnswerStatus, HasJournal, journal_of, failed_names, left_name, right_name, third_name};
+ghost use Rattle.sec_cli.specs.Endings.{Ending, IsCheckEnding, IsReplayEnding, IsVerifyEnding, IsDemoEnding, IsClimbEnding, IsReduceEnding, IsLoadEnding, IsAnswerStatus, HasJournal, journal_of, failed_names, left_name, right_name, third_name};
 ghost use Rattle.sec_cli.specs.Reports.{IsReport, refusal_status, told_of};
 ghost use Rattle.sec_cli.specs.OneAnswer.{IsOneAnswer};
 ghost use Rattle.sec_cli.specs.Runs.{Ended, IsAnswered, IsJournalOfWords, IsRefusedOrBatch, IsUnread, IsUnwritten};
@@ -19,11 +19,12 @@ use crate::climbing::climb_pair;
 use crate::delivering::deliver;
 use crate::demo::demo_answer;
 use crate::ending::{Answer, Refusal};
+use crate::reducing::reduce_net;
 use crate::replaying::replay;
 use crate::telling::{refusal_status, tell_refusal};
 use crate::verifying::verify_file;
-use command_line::{Check, Climb, Command, Demo, Unread, read_words};
-use pair_files::load_pair;
+use command_line::{Check, Climb, Command, Demo, Reduce, Unread, read_words};
+use pair_files::{Side, load_netlist, load_pair, unread_as};
 use refine_board::Journal;
 use run_texts::tell;
 use sec_base::{Gate, Shelf, Sink};
@@ -38,12 +39,12 @@ pub struct Report {
     pub status: u8,
     /// The journal of the refinement, with 0 and 2 of `check` and `demo`, and with 6 where their verdict isn't a difference; of
     /// `climb` that of the last refinement, with a difference too where there was one before it. With 7 it may be there, where the
-    /// file of such a verdict found no memory.
+    /// file of such a verdict found no memory. With 0 and 6 of `reduce` it is there.
     pub journal: Option<Journal>,
 }
 
 const USAGE: &str =
-    "usage: sec check LEFT RIGHT [-k K] [-d D] [-j J] [--classes] [--stats] [--trace FILE] [--cert FILE] [--tie] [--least]\n       sec replay LEFT RIGHT TRACE [--tie]\n       sec verify LEFT RIGHT CERT [--tie]\n       sec demo N [-k K] [-j J]\n       sec climb LEFT RIGHT [-m M] [-j J] [--least]\n       sec batch LIST [-k K] [-j J]\n";
+    "usage: sec check LEFT RIGHT [-k K] [-d D] [-j J] [--classes] [--stats] [--trace FILE] [--cert FILE] [--tie] [--least]\n       sec replay LEFT RIGHT TRACE [--tie]\n       sec verify LEFT RIGHT CERT [--tie]\n       sec demo N [-k K] [-j J]\n       sec climb LEFT RIGHT [-m M] [-j J] [--least]\n       sec reduce NET OUT [-k K] [-j J] [--binary]\n       sec batch LIST [-k K] [-j J]\n";
 
 // The answer of a check of two files.
 fn check_files<R: Threads + Wait + Sync, S: Shelf, G: Gate>(
@@ -171,6 +172,34 @@ fn climb_files<R: Threads + Wait + Sync, S: Shelf, G: Gate>(
     }
 }
 
+// The answer of reducing a file's netlist.
+fn reduce_file<R: Threads + Wait + Sync, S: Shelf, G: Gate>(
+    rt: &R,
+    alloc: Global,
+    shelf: &mut S,
+    name: &str,
+    r: &Reduce,
+    gate: &G,
+) -> Result<Answer, Refusal>
+    requires { IsReduceWithin (reduce_asked r.now) }
+    ensures ending { IsTrue S.tells → IsReduceEnding (S.file shelf.old name.now) (reduce_asked r.now) result }
+    ensures status { IfOk result (λ a. a.status ≤ 2) }
+    ensures journal { IfOk result (λ a. IsTrue (is_some a.journal)) }
+    ensures failed { IsLoadEnding result → Rose (S.load_faults shelf.old) (S.load_faults shelf.new) }
+    ensures files { S.file shelf.new ≡ S.file shelf.old }
+    ensures names { S.failed shelf.new ≡ appended (S.failed shelf.old) (failed_names name.now [] [] result) }
+    ensures load_count { S.load_faults shelf.old ≤ S.load_faults shelf.new }
+    ensures store_count { S.store_faults shelf.new ≡ S.store_faults shelf.old }
+{
+    match load_netlist(alloc, shelf, name) {
+        Err(unread) => Err(Refusal::Unpaired(unread_as(Side::Left, unread))),
+        Ok(net) => match reduce_net(rt, alloc, net, r, gate) {
+            Ok(answer) => Ok(answer),
+            Err(_) => Err(Refusal::Memory),
+        },
+    }
+}
+
 // The answer of a command.
 fn decide<R: Threads + Wait + Sync, S: Shelf, G: Gate>(
     rt: &R,
@@ -195,7 +224,7 @@ fn decide<R: Threads + Wait + Sync, S: Shelf, G: Gate>(
         Command::Verify(c) => verify_files(alloc, shelf, c.left, c.right, c.cert, c.tied),
         Command::Demo(d) => demo_ending(rt, alloc, &d, gate),
         Command::Climb(c) => climb_files(rt, alloc, shelf, c.left, c.right, &c, gate),
-        Command::Reduce(_) => Err(Refusal::Memory),
+        Command::Reduce(r) => reduce_file(rt, alloc, shelf, r.net, &r, gate),
         Command::Batch(b) => batch_ending(rt, alloc, shelf, &b, gate),
     }
 }
@@ -282,14 +311,15 @@ fn perform<R: Threads + Wait + Sync, S: Shelf, O: Sink, E: Sink, G: Gate>(
 /// One run of the program over these words, of which the first is its own name: `check LEFT RIGHT [-k K] [-d D] [-j J]
 /// [--classes] [--stats] [--trace FILE] [--cert FILE] [--tie] [--least]`, `replay LEFT RIGHT TRACE [--tie]`,
 /// `verify LEFT RIGHT CERT [--tie]`, `demo N [-k K] [-j J]`, `climb LEFT RIGHT [-m M] [-j J] [--least]` or
-/// `batch LIST [-k K] [-j J]`.
+/// `reduce NET OUT [-k K] [-j J] [--binary]` or `batch LIST [-k K] [-j J]`.
 /// `check` decides by signal correspondence with k-induction (van Eijk, IEEE TCAD 19(7), 2000; Sheeran, Singh, Stålmarck,
 /// FMCAD 2000), and where that leaves outputs unpaired by a search for a difference in the first k frames, or the first D where
 /// these are more; `replay` tells the first difference of a stored trace;
 /// `verify` reads a stored certificate, without solver or threads; `demo` checks a pair of any size that it makes itself; `climb`
-/// checks with induction over 1, 2, .. frames, up to the first that decides, or to M; `batch` checks the pairs of
+/// checks with induction over 1, 2, .. frames, up to the first that decides, or to M; `reduce` stores a netlist without its
+/// equal signals, whose outputs agree with its source's in every frame of every run; `batch` checks the pairs of
 /// files that LIST names, on J workers, and prints a line for each, in the list's order.
-/// `check`, `demo` and `climb` refine the classes by J workers, in threads that `rt` starts; they may wait for one another, and the
+/// `check`, `demo`, `climb` and `reduce` refine the classes by J workers, in threads that `rt` starts; they may wait for one another, and the
 /// gate may hold them. The verdict and the classes are the same however they go on; with `--least` so is the trace of a difference.
 /// With `--tie` the free latches of both netlists start equal, in their order.
 pub fn run<R: Threads + Wait + Sync, S: Shelf, O: Sink, E: Sink, G: Gate>(

@@ -72,11 +72,11 @@ fn store_name<'w>(command: Command<'w>, status: u8) -> Option<&'w str>
                 None
             }
         }
+        Command::Reduce(r) => { if status == 0 { Some(r.out) } else { None } }
         Command::Replay(_)
         | Command::Verify(_)
         | Command::Demo(_)
         | Command::Climb(_)
-        | Command::Reduce(_)
         | Command::Batch(_) => None,
     }
 }

@@ -9,6 +9,7 @@ mod counting;
 mod delivering;
 mod demo;
 mod ending;
+mod reducing;
 mod replaying;
 mod telling;
 mod verifying;

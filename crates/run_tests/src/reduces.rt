@@ -1,0 +1,61 @@
+//! Runs of `reduce`: what is stored, what is printed, and what is refused.
+use crate::runs::{RING, TOGGLE, answers_so, case, holds, run_so};
+use std::test::Fail;
+
+// Three latches: one toggles from 0, one from 1, and one stays low.
+const TOGGLES: &str = "aag 3 0 3 1 0\n2 3\n4 5 1\n6 0\n4\n";
+
+const ONE_TOGGLE: &str = "aag 3 0 1 1 0\n2 3\n3\n";
+
+// The ring without its product, which three frames show low.
+const RING_ALONE: &str = "aag 4 0 3 1 0\n2 6 1\n4 2\n6 4\n0\n";
+
+#[test]
+fn a_netlist_without_its_equal_signals_is_stored(rt: HostRuntime) -> Result<(), Fail> {
+    let alloc = rt.alloc();
+    let one = "reduced k=1 signals=4 classes=2 latches=1 gates=0\n";
+    let whole = "reduced k=1 signals=2 classes=2 latches=1 gates=0\n";
+    let ring = "reduced k=1 signals=5 classes=5 latches=3 gates=1\n";
+    let less = "reduced k=3 signals=5 classes=4 latches=3 gates=0\n";
+    let binary = "aig 1 0 1 1 0\n3\n3\n";
+    for (words, source, out, file) in [
+        ("sec reduce left made", TOGGLES, one, ONE_TOGGLE),
+        ("sec reduce left made --binary", TOGGLES, one, binary),
+        ("sec reduce left made", TOGGLE, whole, TOGGLE),
+        ("sec reduce left made -j 3", RING, ring, RING),
+        ("sec reduce left made -k 3", RING, less, RING_ALONE),
+    ] {
+        let row = case(words, source, "", 0, out, "");
+        let shelf = run_so(&rt, alloc, &row, Vec::new(alloc), Vec::new(alloc))?;
+        assert!(rt; holds(&shelf, "made", file.as_bytes()), "{words}");
+    }
+    Ok(())
+}
+
+#[test]
+fn a_reduced_netlist_is_equivalent_to_its_source(rt: HostRuntime) -> Result<(), Fail> {
+    let alloc = rt.alloc();
+    let same = "equivalent k=1 signals=5 classes=2\n";
+    for words in ["sec check left right", "sec check left right --tie"] {
+        assert!(rt; answers_so(&rt, alloc, &case(words, TOGGLES, ONE_TOGGLE, 0, same, ""))?);
+    }
+    Ok(())
+}
+
+#[test]
+fn a_netlist_that_is_not_reduced_leaves_the_files(rt: HostRuntime) -> Result<(), Fail> {
+    let alloc = rt.alloc();
+    let words = "sec reduce left made";
+    let fault = case(words, "abc", "", 4, "", "sec: left: header at byte 0\n");
+    assert!(rt; answers_so(&rt, alloc, &fault)?);
+    let unread = case(words, TOGGLE, "", 5, "", "sec: left: read failed\n");
+    let shelf = run_so(&rt, alloc, &unread, vec![in alloc; 0]?, Vec::new(alloc))?;
+    assert!(rt; shelf.is_some());
+    let unstored = case(words, TOGGLE, "", 6, "", "sec: made: write failed\n");
+    let shelf = run_so(&rt, alloc, &unstored, vec![in alloc; 1]?, Vec::new(alloc))?;
+    assert!(rt; shelf.is_some());
+    let unwritten = case(words, TOGGLE, "", 6, "", "sec: output: write failed\n");
+    let shelf = run_so(&rt, alloc, &unwritten, Vec::new(alloc), vec![in alloc; 0]?)?;
+    assert!(rt; holds(&shelf, "made", TOGGLE.as_bytes()));
+    Ok(())
+}
