@@ -4,10 +4,10 @@
     bench/refused_memory.py PROGRAM [--step S] [--seconds T] [--runs-at-once R] [--only WORD]
 
 Each of a few commands is run once with ample memory, and then with allocation 1, 2, 3, .. refused (each S-th, 1 where --step is
-left out) until past the last. A run must end within T seconds (10) as the one with ample memory did, or with status 7,
-`sec: out of memory` on standard error, nothing on standard output and no file stored. Prints a row for each command and
-mode: runs, those that answered, those that told want of memory, and others, of which the first few are shown. Ends with
-status 1 where there are others.
+left out) until past the last. In a third mode the call that is to be refused is held until another thread waits, at the lock or for
+work. A run must end within T seconds (10) as the one with ample memory did, or with status 7, `sec: out of memory` on standard
+error, nothing on standard output and no file stored. Prints a row for each command and mode: runs, those that answered, those that
+told want of memory, and others, of which the first few are shown. Ends with status 1 where there are others.
 """
 import argparse
 import concurrent.futures
@@ -22,6 +22,7 @@ PRELOAD = r"""
 #define _GNU_SOURCE
 #include <errno.h>
 #include <fcntl.h>
+#include <stdarg.h>
 #include <stddef.h>
 #include <stdio.h>
 #include <stdlib.h>
@@ -33,13 +34,21 @@ extern void *__libc_calloc(size_t, size_t);
 extern void *__libc_realloc(void *, size_t);
 extern void *__libc_memalign(size_t, size_t);
 
-static long calls, refused_call, all_later, is_ready;
+static long calls, refused_call, all_later, while_waiting, waiting, is_ready;
 
 static void prepare(void) {
     const char *call = getenv("REFUSED_CALL");
     refused_call = call ? atol(call) : 0;
     all_later = getenv("REFUSED_ALL_LATER") != NULL;
+    while_waiting = getenv("REFUSED_WHILE_WAITING") != NULL;
     __atomic_store_n(&is_ready, 1, __ATOMIC_SEQ_CST);
+}
+
+// How long a call that is to be refused is held for another thread to wait at a lock or a bell: a fifth of a second at most.
+static void hold(void) {
+    for (int i = 0; i < 200 && __atomic_load_n(&waiting, __ATOMIC_SEQ_CST) == 0; i++)
+        usleep(1000);
+    usleep(2000);
 }
 
 static int refused(void) {
@@ -48,8 +57,34 @@ static int refused(void) {
     long call = __atomic_add_fetch(&calls, 1, __ATOMIC_SEQ_CST);
     if (refused_call == 0 || call < refused_call || (call > refused_call && !all_later))
         return 0;
+    if (while_waiting)
+        hold();
     errno = ENOMEM;
     return 1;
+}
+
+// The program's system calls, among which are those by which a thread waits.
+long syscall(long number, ...) {
+    va_list words;
+    va_start(words, number);
+    long a = va_arg(words, long), b = va_arg(words, long), c = va_arg(words, long);
+    long d = va_arg(words, long), e = va_arg(words, long), f = va_arg(words, long);
+    va_end(words);
+    int waits = number == SYS_futex && ((b & 127) == 0 || (b & 127) == 9);
+    if (waits)
+        __atomic_add_fetch(&waiting, 1, __ATOMIC_SEQ_CST);
+    register long r10 __asm__("r10") = d;
+    register long r8 __asm__("r8") = e;
+    register long r9 __asm__("r9") = f;
+    long result;
+    __asm__ volatile("syscall" : "=a"(result) : "a"(number), "D"(a), "S"(b), "d"(c), "r"(r10), "r"(r8), "r"(r9) : "rcx", "r11", "memory");
+    if (waits)
+        __atomic_sub_fetch(&waiting, 1, __ATOMIC_SEQ_CST);
+    if (result < 0 && result > -4096) {
+        errno = -result;
+        return -1;
+    }
+    return result;
 }
 
 void *malloc(size_t size) { return refused() ? NULL : __libc_malloc(size); }
@@ -101,7 +136,7 @@ COMMANDS = [
     "replay toggle low trace",
     "demo 20 -j 3",
 ]
-MODES = ["alone", "and all later"]
+MODES = ["alone", "and all later", "while another waits"]
 
 
 @dataclasses.dataclass(frozen=True)
@@ -137,6 +172,8 @@ class Runs:
             settings = {"LD_PRELOAD": self.library, "REFUSED_CALL": str(call)}
             if mode == "and all later":
                 settings["REFUSED_ALL_LATER"] = "1"
+            if mode == "while another waits":
+                settings["REFUSED_WHILE_WAITING"] = "1"
             if count is not None:
                 settings["REFUSED_COUNT"] = count
             try:

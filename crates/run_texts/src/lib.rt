@@ -7,8 +7,8 @@ mod telling;
 mod texts;
 
 pub use lines::{
-    agrees_line, demo_line, different_line, differs_line, equivalent_line, push_numbers, reduced_line,
-    undecided_head,
+    agrees_line, demo_line, different_line, differs_line, equivalent_line, push_numbers,
+    reduced_line, undecided_head,
 };
 pub use telling::{
     name_of, tell, tell_fault, tell_line_fault, tell_unpaired, tell_unread, tell_unstored,

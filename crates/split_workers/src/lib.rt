@@ -9,6 +9,8 @@ mod report;
 mod room;
 mod running;
 mod seat;
+#[cfg(test)]
+mod tests;
 mod worker;
 
 pub use report::{WorkReport, reports_of};

@@ -36,10 +36,10 @@ pub struct Refined<'p> {
 // The ledgers of a run, for which no name stands yet: of the offers that the board made, of its workers' ends, and of the
 // answers that they owe.
 #[derive(Drop)]
-struct Blanks {
-    offers: Blank,
-    ends: Blank,
-    owed: Blank,
+pub(crate) struct Blanks {
+    pub(crate) offers: Blank,
+    pub(crate) ends: Blank,
+    pub(crate) owed: Blank,
 }
 
 // The same under the names of a run and of the ledgers of its workers.
