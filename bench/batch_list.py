@@ -4,7 +4,7 @@
     bench/batch_list.py PROGRAM small|mixed [--pairs N] [--runs R]
 
 `small`: N lines (10,000) of pairs of 4 to 8 inputs, in one `batch -j 1`, one `batch -j 4`, and as N runs of `check`, one after another.
-`mixed`: N pairs (200) of 5 to 1,200 inputs, few of them large, with `-j 1`, `-j 2` and `-j 4`.
+`mixed`: N pairs (200) of 5 to 1,100 inputs, few of them large, with `-j 1`, `-j 2` and `-j 4`.
 Prints the least seconds that passed of R runs (1) each, the seconds of processor of that run, and its peak memory. What `batch` prints is
 compared between all of them. Unproved; no contract claims time.
 """
@@ -30,7 +30,7 @@ def sizes(kind, count):
     if kind == "small":
         return [4 + at % 5 for at in range(count)]
     # Sizes that grow by a constant factor over the list, in an order that mixes them.
-    grown = [round(5 * 240 ** (at / max(1, count - 1))) for at in range(count)]
+    grown = [round(5 * 220 ** (at / max(1, count - 1))) for at in range(count)]
     return [grown[at * 77 % count] for at in range(count)]
 
 

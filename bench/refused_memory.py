@@ -123,6 +123,7 @@ FILES = {
     "masked": MASKED,
     "toggle": TOGGLE,
     "low": LOW,
+    "list": "delay masked\ntoggle low\ntoggle list\n",
     "trace": "1\nb0\n0\n\n\n.\n",
     "cert": "seccert 2 k=1 signals=3 tie=0\nclass l1 r1\nbase r1\n0 6 2 3 4 0\nstep r1\n-2 0 3 8 5 11 9 0\n0 12 4 7 6 11 10 0\nend\n",
 }
@@ -134,6 +135,9 @@ COMMANDS = [
     "check delay delay --classes --stats --cert made",
     "verify toggle toggle cert",
     "replay toggle low trace",
+    "climb toggle low -j 2",
+    "reduce masked made -j 2",
+    "batch list -j 2",
     "demo 20 -j 3",
 ]
 MODES = ["alone", "and all later", "while another waits"]
