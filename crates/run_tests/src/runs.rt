@@ -19,10 +19,10 @@ pub(crate) struct Row {
     pub(crate) words: &'static str,
     pub(crate) left: &'static str,
     pub(crate) right: &'static str,
-    trace: &'static str,
-    status: u8,
-    out: &'static str,
-    err: &'static str,
+    pub(crate) trace: &'static str,
+    pub(crate) status: u8,
+    pub(crate) out: &'static str,
+    pub(crate) err: &'static str,
 }
 
 pub(crate) const TOGGLE: &str = "aag 1 0 1 1 0\n2 3\n2\n";
