@@ -226,4 +226,5 @@ def main():
             run(["yosys-abc", "-q", f"read_aiger {name}_left.aig; {passes}; write_aiger {name}_right.aig"], folder)
 
 
-main()
+if __name__ == "__main__":
+    main()
