@@ -63,6 +63,9 @@ impl<'p> SplitRows<'p> {
         requires keeps { KeepsGreatest lanes.now.pair lanes.now.k lanes.now.classes }
         ensures { self.new ≡ self.old }
     {
+        if !self.is_split_by(lanes.words(), lanes.lanes()) {
+            return Ok(());
+        }
         if let Some(block) = LaneRows::of_step(alloc, lanes)? {
             self.take(alloc, block)?;
         }
