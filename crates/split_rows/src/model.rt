@@ -55,18 +55,21 @@ fn step_frames(lanes: &mut StepLanes<'_, '_>, inputs: &[u64], frames: u32)
 }
 
 impl<'p> SplitRows<'p> {
-    // Takes in the rows at which paths stand.
-    fn take_step(&mut self, alloc: Global, lanes: &StepLanes<'_, 'p>) -> Result<(), AllocError>
+    // Takes in the rows at which paths stand. Answers whether they split anything.
+    fn take_step(&mut self, alloc: Global, lanes: &StepLanes<'_, 'p>) -> Result<bool, AllocError>
         requires pair { lanes.now.pair ≡ self.old.pair }
         requires k { lanes.now.k ≡ self.old.k }
         requires frame { lanes.now.k < lanes.now.frames }
         requires keeps { KeepsGreatest lanes.now.pair lanes.now.k lanes.now.classes }
         ensures { self.new ≡ self.old }
     {
+        if !self.is_split_by(lanes.words(), lanes.lanes()) {
+            return Ok(false);
+        }
         if let Some(block) = LaneRows::of_step(alloc, lanes)? {
             self.take(alloc, block)?;
         }
-        Ok(())
+        Ok(true)
     }
 
     // Draws the words of a start and of the inputs of so many frames.
@@ -126,7 +129,7 @@ impl<'p> SplitRows<'p> {
         Ok(Vec::new(alloc))
     }
 
-    // Simulates some frames more, with inputs that are drawn.
+    // Simulates some frames more while they split, with inputs that are drawn.
     fn go_on(
         &mut self,
         alloc: Global,
@@ -143,7 +146,9 @@ impl<'p> SplitRows<'p> {
         for _ in 0..MORE {
             self.stimulus.fill(inputs);
             lanes.step(inputs);
-            self.take_step(alloc, lanes)?;
+            if !self.take_step(alloc, lanes)? {
+                return Ok(());
+            }
         }
         Ok(())
     }

@@ -4,7 +4,7 @@ ghost use Rattle.circ_model.specs.Meaning.{places_of};
 ghost use Rattle.class_partition.specs.Classes.{KeepsGreatest, least_of};
 ghost use Rattle.split_rows.specs.Rows.{IsRowApart};
 
-use crate::words::split_by_block;
+use crate::words::{is_splitting, split_by_block};
 use bit_rows::BitRow;
 use class_partition::{Classes, Needed};
 use product_machine::Product;
@@ -90,12 +90,23 @@ impl<'p> SplitRows<'p> {
         Ok(())
     }
 
+    // Whether rows in the lanes of a mask seem to split what the blocks leave.
+    pub(crate) fn is_split_by(&self, words: &[u64], mask: u64) -> bool {
+        match &self.left {
+            Some(left) => is_splitting(left, words, mask),
+            None => false,
+        }
+    }
+
     // Takes a block in, where it splits what the others leave. Answers how many classes it adds.
     pub(crate) fn take(&mut self, alloc: Global, block: LaneRows<'p>) -> Result<u32, AllocError>
         requires pair { block.pair ≡ self.old.pair }
         requires k { block.k ≡ self.old.k }
         ensures { self.new ≡ self.old }
     {
+        if !self.is_split_by(block.words(), block.mask()) {
+            return Ok(0);
+        }
         let added = match &mut self.left {
             Some(left) => split_by_block(alloc, left, &block)?,
             None => 0,

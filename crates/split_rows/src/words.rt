@@ -22,6 +22,19 @@ fn within(word: u64, mask: u64, phase: bool) -> u64 {
     (word & mask) | outside
 }
 
+// Whether some place differs from its class's least place in a lane of the mask, each with its phase.
+pub(crate) fn is_splitting(classes: &Classes, words: &[u64], mask: u64) -> bool {
+    for p in 0..classes.len() {
+        let rep = classes.rep(p);
+        let apart = word_at(words, rep as usize) ^ word_at(words, p as usize);
+        let turned = word_of(classes.phase(rep) != classes.phase(p));
+        if (apart ^ turned) & mask != 0 {
+            return true;
+        }
+    }
+    false
+}
+
 // Splits classes by the rows of a block. Answers how many classes that adds.
 pub(crate) fn split_by_block(
     alloc: Global,
