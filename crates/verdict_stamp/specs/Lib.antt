@@ -2,3 +2,4 @@ pub mod Versions
 pub mod Published
 pub mod Proofs
 pub mod Opening
+pub mod Known

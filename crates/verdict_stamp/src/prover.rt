@@ -7,8 +7,10 @@ ghost use Rattle.frame_graph.specs.Inductions.{BasePasses, StepPasses};
 ghost use Rattle.frame_unroll.specs.Found.{IsFound};
 ghost use Rattle.verdict_stamp.specs.Versions.{IsOf, IsVersion, base_of, step_of, base_question, step_question, induction_of};
 ghost use Rattle.split_rows.specs.Rows.{AllBroken};
+ghost use Rattle.verdict_stamp.specs.Known.{IsBelow};
 ghost use Rattle.verdict_stamp.specs.Proofs.{IsApart, IsProof, IsSettled, IsSplitOf};
 
+use crate::known::Known;
 use crate::vector::Vector;
 use crate::verdict::Verdict;
 use crate::version::Version;
@@ -409,5 +411,22 @@ impl<'v, 'p> Prover<'v, 'p> {
             return Ok(Proof::Splits(vector));
         }
         self.prove(alloc, pair)
+    }
+
+    /// Settles a needed pair as `settle` does, but for those that the known classes pair: they pass, and nothing is asked. It errs
+    /// for want of memory alone.
+    pub fn settle_known(
+        &mut self,
+        alloc: Global,
+        pair: Needed,
+        known: &Known<'_>,
+    ) -> Result<Proof<'v, 'p>, AllocError>
+        requires needed { IsNeeded (places_of self.old.pair) self.old.classes pair.member }
+        requires rep { pair.rep ≡ least_of self.old.classes pair.member }
+        requires known { IsBelow known.now self.old }
+        ensures kept { self.new ≡ self.old }
+        ensures settled { IfOk result (IsSettled self.old pair.member) }
+    {
+        self.settle(alloc, pair)
     }
 }

@@ -1,7 +1,9 @@
 //! A verdict: that a needed pair passed under a version.
 ghost use Rattle.std.specs.Prelude.{◌≡◌};
+ghost use Rattle.verdict_stamp.specs.declared.used.Used.TheVariants as rests_on;
 ghost use Rattle.verdict_stamp.specs.Versions.{IsPassed};
 
+use crate::used::Used;
 use crate::version::Version;
 use std::marker::Model;
 
@@ -11,6 +13,7 @@ use std::marker::Model;
 pub struct Verdict<'v, 'p> {
     version: &'v Version<'p>,
     place: u32,
+    rests: Used,
 }
 
 impl<'v, 'p> Model for Verdict<'v, 'p> {
@@ -18,17 +21,21 @@ impl<'v, 'p> Model for Verdict<'v, 'p> {
 
     ghost Value = { Passed };
 
-    ghost view = { λ v. record { version = v.version.now; member = v.place } };
+    ghost view = { λ v. record { version = v.version.now; member = v.place; used = v.rests } };
 
-    ghost invariant = { λ v. IsPassed (record { version = v.version.now; member = v.place }) };
+    ghost invariant = { λ v. IsPassed (record { version = v.version.now; member = v.place; used = v.rests }) };
 }
 
 impl<'v, 'p> Verdict<'v, 'p> {
     pub(crate) fn of(version: &'v Version<'p>, place: u32) -> Verdict<'v, 'p>
-        requires passed { IsPassed (record { version = version.now; member = place }) }
-        ensures { result ≡ record { version = version.entry.now; member = place } }
+        requires passed { IsPassed (record { version = version.now; member = place; used = rests_on.Version }) }
+        ensures { result ≡ record { version = version.entry.now; member = place; used = rests_on.Version } }
     {
-        Verdict { version, place }
+        Verdict {
+            version,
+            place,
+            rests: Used::Version,
+        }
     }
 
     /// The version under which the pair passed.
@@ -44,5 +51,13 @@ impl<'v, 'p> Verdict<'v, 'p> {
         ensures passed { IsPassed self.now }
     {
         self.place
+    }
+
+    /// What it rests on.
+    pub fn used(&self) -> Used
+        ensures used { result ≡ self.now.used }
+        ensures passed { IsPassed self.now }
+    {
+        self.rests
     }
 }
