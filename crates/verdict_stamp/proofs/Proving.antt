@@ -14,6 +14,7 @@ use Rattle.frame_unroll.specs.Found.{IsFound, IsSeen, NoneSought}
 use Rattle.frame_unroll.proofs.Members.{members_to, members_from}
 use Rattle.verdict_stamp.specs.declared.prover.Proof.{Proof}
 use Rattle.verdict_stamp.specs.declared.prover.Proof.TheVariants.{Holds, Splits}
+use Rattle.verdict_stamp.specs.declared.used.Used.TheVariants.{Version, Known}
 use Rattle.pair_sweep.specs.Sweeps.{Extent}
 use Rattle.split_rows.specs.Rows.{IsRowApart}
 use Rattle.frame_graph.specs.Inductions.{BasePasses, StepPasses}
@@ -97,8 +98,12 @@ step_found v m f s is e h = step_row v m s is (subst (IsFound (step_of v) (step_
 pub splits : (v : Standing) (m : ℕ) (x : Split) (pair : Pair) (k : ℕ) (bits : List Bool) → pair ≡ v.pair → k ≡ v.k → x ≡ record { pair = pair; k = k; bits = bits } → IsSplitOf v m bits → IsProof v m (Splits x)
 splits v m x pair k bits ep ek ex s = subst (λ (z : Split). IsProof v m (Splits z)) (sym ex) (ep, ek, s.apart, s.may, s.fails)
 
-pub passed : (v : Standing) (m : ℕ) → BasePasses (induction_of v) m → StepPasses (induction_of v) m → IsNeeded (places_of v.pair) v.classes m → IsPassed (record { version = v; member = m })
-passed v m base step need = record { is_needed = need; passes = both_halves (induction_of v) m base step }
+-- what rests on the version rests on nothing that is known
+not_known : (j : ℕ) → Version ≡ Known j → ⊥
+not_known j e = cc
+
+pub passed : (v : Standing) (m : ℕ) → BasePasses (induction_of v) m → StepPasses (induction_of v) m → IsNeeded (places_of v.pair) v.classes m → IsPassed (record { version = v; member = m; used = Version })
+passed v m base step need = record { is_needed = need; passes = both_halves (induction_of v) m base step; known = λ j e. absurd (not_known j e) }
 
 -- nothing found: each half holds
 pub base_none : (v : Standing) (m : ℕ) (f : Found) (log : List Line) → f ≡ found.None log → IsFound (base_of v) (base_question v m) f → BasePasses (induction_of v) m
@@ -135,7 +140,7 @@ apart_by v w m o x ev eo has = subst (λ (z : Standing). IsApart z m x) ev (subs
 
 -- an exact answer settles the pair
 pub settles : (v w : Standing) (m : ℕ) (p : Proof) → v ≡ w → IsProof v m p → IsSettled w m p
-settles v w m (Holds x) e is = subst (λ (z : Standing). IsSettled z m (Holds x)) e is
+settles v w m (Holds x) e is = subst (λ (z : Standing). IsSettled z m (Holds x)) e (is.0, is.1, is.3)
 settles v w m (Splits x) e is = subst (λ (z : Standing). IsSettled z m (Splits x)) e (is.0, is.1, is.2, is.3)
 
 pub none_by : (X : Type 0) (P : Type 0) (o : Option X) → o ≡ None → IfNone o P → P

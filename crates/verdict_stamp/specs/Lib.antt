@@ -2,3 +2,5 @@ pub mod Versions
 pub mod Published
 pub mod Proofs
 pub mod Opening
+pub mod Known
+pub mod Laws

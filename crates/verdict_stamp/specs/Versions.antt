@@ -2,13 +2,15 @@
 use Rattle.std.specs.Prelude.{◌≡◌, ℕ, ◌-◌, ◌<◌, ◌≤◌, List, length, Bool, not}
 use Rattle.circ_model.specs.Meaning.{Pair, places_of, value_in}
 use Rattle.circ_model.specs.Runs.{phases}
-use Rattle.circ_model.specs.Correspondence.{MaySplit}
+use Rattle.circ_model.specs.Correspondence.{Corresponds, MaySplit}
 use Rattle.class_partition.specs.Classes.{Classes, ArePartition, IsNeeded, KeepsGreatest, Passes, class_count, needed, one_class}
 use Rattle.frame_graph.specs.Inductions.{Induction}
 use Rattle.pair_sweep.specs.Sweeps.{Extent}
 use Rattle.frame_unroll.specs.declared.question.Question.{Question}
 use Rattle.frame_unroll.specs.Unrolled.{Unrolling, after_classes, from_reset}
 use Rattle.frame_unroll.specs.Found.{asks}
+use Rattle.verdict_stamp.specs.declared.used.Used.{Used}
+use Rattle.verdict_stamp.specs.declared.used.Used.TheVariants.{Known}
 
 -- classes of a pair's places, for induction over k frames, and how many splits they went through
 pub record Standing : Type 0 where
@@ -59,14 +61,21 @@ base_question v m = asks (needed v.classes m).0 (needed v.classes m).1 0 (v.k - 
 abbrev pub step_question : Standing → ℕ → Question
 step_question v m = asks (needed v.classes m).0 (needed v.classes m).1 v.k v.k
 
--- a place that passed under a version
+-- a place that passed under a version, and what that rests on
 pub record Passed : Type 0 where
   pub version : Standing
   pub member : ℕ
+  pub used : Used
 
+-- a place and its class's least place, at their relative phase, are a pair of the greatest correspondence for induction over j frames
+abbrev pub IsKnown : Pair → ℕ → Classes → ℕ → Type 0
+IsKnown pair j classes m = Corresponds pair j (needed classes m).0 (needed classes m).1
+
+-- it passes; where it rests on what is known for j frames, these are some and no more than the version's
 pub record IsPassed (w : Passed) : Type 0 where
   pub is_needed : IsNeeded (places_of w.version.pair) w.version.classes w.member
   pub passes : Passes w.version.pair w.version.k w.version.classes w.member
+  pub known : (j : ℕ) → w.used ≡ Known j → (0 < j) × (j ≤ w.version.k) × IsKnown w.version.pair j w.version.classes w.member
 
 -- the induction that a version's pairs are proved by
 abbrev pub induction_of : Standing → Induction

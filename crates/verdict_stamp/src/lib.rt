@@ -3,16 +3,22 @@
 //! Sheeran, Singh, Stålmarck, FMCAD 2000.)
 #![tactic(auto)]
 
+mod known;
+mod laws;
 mod opening;
 mod prover;
 mod refine;
+mod used;
 mod vector;
 mod verdict;
 mod version;
 mod versions;
 
+pub use known::Known;
+pub use laws::known_passes;
 pub use prover::{Proof, Prover, ProverMemory};
 pub use refine::greatest_classes;
+pub use used::Used;
 pub use vector::Vector;
 pub use verdict::Verdict;
 pub use version::Version;
