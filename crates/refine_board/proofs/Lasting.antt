@@ -1,39 +1,20 @@
 -- What is known of a pair outlives splits: it passes, and its class's least place stays with it.
-use Rattle.std.proofs.Common.{◌≡◌, ◌∙◌, ◌<◌, ◌≤◌, ◌+◌, ◌-◌, ℕ, zero, suc, Bool, false, List, refl, map, length, set, ap, ap₂, sym, subst, arith, ⊎_elim, slice_index_or, get_or-set_same, get_or-set_other, length-set}
+use Rattle.std.proofs.Common.{◌≡◌, ◌∙◌, ◌<◌, ◌≤◌, ◌+◌, ℕ, Bool, false, List, refl, map, length, set, ap, ap₂, sym, subst, arith, ⊎_elim, slice_index_or, get_or-set_same, get_or-set_other, length-set}
 use Rattle.std.proofs.lemmas.Bool.{cases_eq}
 use Rattle.std.proofs.lemmas.List.{length-map, get_or_default, ext_get_or}
 use Rattle.std.proofs.Math.ListN.{get_or-map}
-use Rattle.circ_model.specs.Meaning.{Pair, bit, row_at, signed, literal, places_of}
+use Rattle.circ_model.specs.Meaning.{Pair, bit, signed, literal, places_of}
 use Rattle.circ_model.specs.Correspondence.{Corresponds}
-use Rattle.circ_model.proofs.Greatest.{greatest_holds, greatest_steps, grows}
 use Rattle.class_partition.specs.Classes.{Classes, least_of, phase_of, ArePartition, IsNeeded, IsSplit, KeepsGreatest, Passes, needed}
-use Rattle.class_partition.proofs.Partition.{agrees_where_they_hold}
 use Rattle.class_partition.proofs.SameClasses.{places_of_pairs}
 use Rattle.verdict_stamp.specs.Versions.{IsKnown}
+use Rattle.verdict_stamp.proofs.KnownPasses.{greatest_grows, known_passes}
 use Rattle.verdict_stamp.specs.declared.used.Used.{Used}
 use Rattle.verdict_stamp.specs.declared.used.Used.TheVariants as used
 use Rattle.refine_board.specs.declared.marks.Mark.{Mark}
 use Rattle.refine_board.specs.declared.marks.Mark.TheVariants.{Open, Out, Proved}
 use Rattle.refine_board.specs.States.{lasting}
 use Rattle.refine_board.specs.Schedules.{RestsOn}
-
--- the greatest correspondence for more frames contains it
-known_more : (pair : Pair) (j d a b : ℕ) → Corresponds pair j a b → Corresponds pair (j + d) a b
-known_more pair j zero a b h = subst (λ (n : ℕ). Corresponds pair n a b) (let e : j ≡ j + 0 = omega arith in e) h
-known_more pair j (suc d) a b h = subst (λ (n : ℕ). Corresponds pair n a b) (let e : j + d + 1 ≡ j + suc d = omega arith in e) (grows pair (j + d) a b (known_more pair j d a b h))
-
-pub known_for : (pair : Pair) (j k a b : ℕ) → j ≤ k → Corresponds pair j a b → Corresponds pair k a b
-known_for pair j k a b le h = subst (λ (n : ℕ). Corresponds pair n a b) (let e : j + (k - j) ≡ k = omega arith in e) (known_more pair j (k - j) a b h)
-
--- a known pair passes under all classes that separate no pair of the greatest correspondence
-pub known_passes : (pair : Pair) (j k : ℕ) (classes : Classes) (m : ℕ) → j ≤ k → KeepsGreatest pair k classes → IsKnown pair j classes m → Passes pair k classes m
-known_passes pair j k classes m le keeps known =
-    let a : ℕ = (needed classes m).0 in
-    let b : ℕ = (needed classes m).1 in
-    record {
-      base = λ run is len t lt. greatest_holds pair j a b known run is t (omega (arith, len, lt));
-      step = λ path is len h. greatest_steps pair k path is (omega (arith, len)) (λ t lt. agrees_where_they_hold pair k classes (row_at pair path t) keeps (h t lt)) a b (known_for pair j k a b le known);
-    }
 
 pub rests_passes : (pair : Pair) (k : ℕ) (classes : Classes) (m : ℕ) (w : Used) → KeepsGreatest pair k classes → RestsOn pair k classes m w → Passes pair k classes m
 rests_passes pair k classes m used.Version keeps rests = rests
@@ -53,21 +34,21 @@ stays_least places before bits after is split p lt e =
 pub was_needed : (places : ℕ) (before : Classes) (bits : List Bool) (after : Classes) → ArePartition places before → IsSplit places before bits after → (p : ℕ) → IsNeeded places after p → IsNeeded places before p
 was_needed places before bits after is split p need = (need.0, λ (e : least_of before p ≡ p). need.1 (stays_least places before bits after is split p need.0 e))
 
--- and a known one keeps its pair
-same_needed : (pair : Pair) (k : ℕ) (before : Classes) (bits : List Bool) (after : Classes) → ArePartition (places_of pair) before → IsSplit (places_of pair) before bits after → KeepsGreatest pair k after
-    → (p : ℕ) → p < places_of pair → IsKnown pair k before p → needed after p ≡ needed before p
-same_needed pair k before bits after is split keeps p lt known =
+-- and a known one keeps its class's least place
+pub same_least : (pair : Pair) (j k : ℕ) (before : Classes) (bits : List Bool) (after : Classes) → j ≤ k → ArePartition (places_of pair) before → IsSplit (places_of pair) before bits after → KeepsGreatest pair k after
+    → (p : ℕ) → p < places_of pair → IsKnown pair j before p → least_of after p ≡ least_of before p
+same_least pair j k before bits after le is split keeps p lt known =
     let r : ℕ = least_of before p in
     let low : r ≤ p = is.lower p lt in
     let sign : Bool = signed (phase_of before r) (phase_of before p) in
-    let together : least_of after r ≡ least_of after p = places_of_pairs after r p false sign (keeps (literal r false) (literal p sign) known) in
-    let same : least_of after p ≡ r = sym together ∙ stays_least (places_of pair) before bits after is split r (omega arith) (is.fixed p lt) in
-    ap₂ (λ (q : ℕ) (phase : List Bool). (literal q false, literal p (signed (bit phase q) (bit phase p)))) same split.phase
+    let together : least_of after r ≡ least_of after p = places_of_pairs after r p false sign (keeps (literal r false) (literal p sign) (greatest_grows pair j k (literal r false) (literal p sign) le known)) in
+    sym together ∙ stays_least (places_of pair) before bits after is split r (omega arith) (is.fixed p lt)
 
 known_still : (pair : Pair) (j k : ℕ) (before : Classes) (bits : List Bool) (after : Classes) → j ≤ k → ArePartition (places_of pair) before → IsSplit (places_of pair) before bits after → KeepsGreatest pair k after
     → (p : ℕ) → p < places_of pair → IsKnown pair j before p → IsKnown pair j after p
 known_still pair j k before bits after le is split keeps p lt known =
-    let e : needed after p ≡ needed before p = same_needed pair k before bits after is split keeps p lt (known_for pair j k (needed before p).0 (needed before p).1 le known) in
+    let same : least_of after p ≡ least_of before p = same_least pair j k before bits after le is split keeps p lt known in
+    let e : needed after p ≡ needed before p = ap₂ (λ (q : ℕ) (phase : List Bool). (literal q false, literal p (signed (bit phase q) (bit phase p)))) same split.phase in
     subst (λ (x : ℕ × ℕ). Corresponds pair j x.0 x.1) (sym e) known
 
 -- what rests on known pairs rests on them after a split

@@ -1,11 +1,12 @@
 -- Every legal list of entries keeps the board supported, and where Done fits the classes are exact.
-use Rattle.std.proofs.Common.{◌≡◌, ◌==◌, ◌∙◌, ◌<◌, ◌≤◌, ℕ, zero, suc, Bool, true, false, true≢false, List, [], ◌∷◌, length, set, replicate, if◌then◌else◌, refl, ap, sym, subst, arith, ⊎_elim, slice_index_or, Option, Some, None, length-set, get_or-set_same, get_or-set_other}
+use Rattle.std.proofs.Common.{◌≡◌, ◌↔◌, ◌==◌, ◌∙◌, ◌<◌, ◌≤◌, ℕ, zero, suc, Bool, true, false, true≢false, List, [], ◌∷◌, length, set, replicate, if◌then◌else◌, refl, ap, sym, subst, arith, ⊎_elim, slice_index_or, Option, Some, None, length-set, get_or-set_same, get_or-set_other}
 use Rattle.std.proofs.lemmas.Bool.{cases_lt, cases_eq}
 use Rattle.std.proofs.lemmas.List.{set_past, length-map, length-replicate}
 use Rattle.circ_model.specs.Meaning.{Pair, bit, signed, row_at, literal, places_of}
 use Rattle.circ_model.specs.Correspondence.{HoldsIn, MaySplit}
+use Rattle.class_partition.specs.declared.classes.Needed.{Needed}
 use Rattle.class_partition.specs.Classes.{Classes, least_of, phase_of, ArePartition, IsNeeded, needed, HoldIn, IsSplit, KeepsGreatest, Passes, AreOfGreatest}
-use Rattle.refine_board.proofs.Lasting.{rests_passes, rests_still, was_needed, StaysCounted, StaysCounted.Stays, stays_counted}
+use Rattle.refine_board.proofs.Lasting.{rests_passes, rests_still, same_least, was_needed, StaysCounted, StaysCounted.Stays, stays_counted}
 use Rattle.verdict_stamp.specs.declared.used.Used.{Used}
 use Rattle.verdict_stamp.specs.declared.used.Used.TheVariants as used
 use Rattle.std.proofs.Math.ListN.{get_or-map}
@@ -15,7 +16,7 @@ use Rattle.refine_board.specs.declared.marks.LastOffer.{LastOffer}
 use Rattle.refine_board.specs.declared.journal.Step.{Step}
 use Rattle.refine_board.specs.declared.journal.Step.TheVariants.{Offered, Idle, Done, Counted, Stale, Back, Foreign, Already, Split}
 use Rattle.refine_board.specs.declared.journal.Entry.{Entry}
-use Rattle.refine_board.specs.States.{State, mark_of, lasting, is_counted, offer_of, AllCounted, called, offered, cleared, marked, reopened, released, divided}
+use Rattle.refine_board.specs.States.{State, IsCountedAt, IsKnownAt, IsNeededPair, mark_of, lasting, is_counted, offer_of, AllCounted, called, offered, cleared, marked, reopened, released, divided}
 use Rattle.refine_board.specs.Schedules.{Does, IsAllowed, RestsOn, Leads, opened, IsSupported}
 use Rattle.circ_model.proofs.Greatest.{may_split_agrees}
 use Rattle.class_partition.proofs.Partition.{split_keeps, exact, needed_from_relative}
@@ -99,6 +100,37 @@ after_split pair k bits classes board allowed split is =
     let keeps : KeepsGreatest pair k classes = split_keeps pair k board.classes bits classes (may_split_agrees pair k bits allowed) is.keeps split in
     supported pair k (divided classes board) split.partition keeps (length-map board.marks lasting ∙ is.marks)
     (λ q w need kept. rests_after pair k bits classes board split keeps is q w need (stays_counted (mark_of board q) w (sym (get_or-map lasting board.marks q Open) ∙ kept)))
+
+-- a pair that is needed and counted after a split was needed before it, and known
+known_before : (pair : Pair) (k : ℕ) (bits : List Bool) (classes : Classes) (board : State) → IsSupported pair k board → IsSplit (places_of pair) board.classes bits classes → KeepsGreatest pair k classes
+    → (p : Needed) → IsNeededPair (places_of pair) classes p → IsCountedAt (divided classes board) p.member → IsNeededPair (places_of pair) board.classes p × IsKnownAt board p.member
+known_before pair k bits classes board is split keeps p need counted =
+    let m : ℕ = p.member in
+    let counted_as = used_of (lasting (mark_of board m)) (ap is_counted (sym (get_or-map lasting board.marks m Open)) ∙ counted) in
+    let needed_before : IsNeeded (places_of pair) board.classes m = was_needed (places_of pair) board.classes bits classes is.partition split m need.0 in
+    of (stays_counted (mark_of board m) counted_as.0 counted_as.1) needed_before
+  where
+    of : {w : Used} → StaysCounted (mark_of board p.member) w → IsNeeded (places_of pair) board.classes p.member → IsNeededPair (places_of pair) board.classes p × IsKnownAt board p.member
+    of (Stays j was rests) before =
+        let known : RestsOn pair k board.classes p.member (used.Known j) = is.rests p.member (used.Known j) before was in
+        ((before, sym (same_least pair j k board.classes bits classes known.1 is.partition split keeps p.member before.0 known.2) ∙ need.1), (j, was))
+
+-- and one that was needed and known is so after it
+known_after : (pair : Pair) (k : ℕ) (bits : List Bool) (classes : Classes) (board : State) → IsSupported pair k board → IsSplit (places_of pair) board.classes bits classes → KeepsGreatest pair k classes
+    → (p : Needed) → IsNeededPair (places_of pair) board.classes p → IsKnownAt board p.member → IsNeededPair (places_of pair) classes p × IsCountedAt (divided classes board) p.member
+known_after pair k bits classes board is split keeps p need (j, was) =
+    let m : ℕ = p.member in
+    let known : RestsOn pair k board.classes m (used.Known j) = is.rests m (used.Known j) need.0 was in
+    let same : least_of classes m ≡ least_of board.classes m = same_least pair j k board.classes bits classes known.1 is.partition split keeps m need.0.0 known.2 in
+    (((need.0.0, λ (e : least_of classes m ≡ m). need.0.1 (sym same ∙ e)), same ∙ need.1), ap is_counted (get_or-map lasting board.marks m Open ∙ ap lasting was))
+
+-- after a split a needed pair is counted exactly where it was needed before it and known
+pub known_stay : (pair : Pair) (k party n : ℕ) (bits : List Bool) (before after : State) → IsSupported pair k before → Does (places_of pair) party (Split bits n) before after → IsAllowed pair k before (Split bits n)
+    → (p : Needed) → (IsNeededPair (places_of pair) after.classes p × IsCountedAt after p.member) ↔ (IsNeededPair (places_of pair) before.classes p × IsKnownAt before p.member)
+known_stay pair k party n bits before after is (classes, split, some, count, e) ok p =
+    let keeps : KeepsGreatest pair k classes = split_keeps pair k before.classes bits classes (may_split_agrees pair k bits ok) is.keeps split in
+    subst (λ (b : State). (IsNeededPair (places_of pair) b.classes p × IsCountedAt b p.member) ↔ (IsNeededPair (places_of pair) before.classes p × IsKnownAt before p.member)) (sym e)
+    (λ now. known_before pair k bits classes before is split keeps p now.0 now.1, λ was. known_after pair k bits classes before is split keeps p was.0 was.1)
 
 pub after_event : (pair : Pair) (k party : ℕ) (event : Step) (before after : State) → Does (places_of pair) party event before after → IsAllowed pair k before event → IsSupported pair k before → IsSupported pair k after
 after_event pair k party (Offered p) before after does ok is = subst (IsSupported pair k) (sym does.1) (after_call pair k party (offered party p before) (let m = after_mark pair k p.member Out before refl is in record { partition = m.partition; keeps = m.keeps; marks = m.marks; counted = m.counted; rests = m.rests }))

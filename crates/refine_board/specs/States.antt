@@ -29,6 +29,10 @@ is_counted (Proved w) = true
 abbrev pub IsCountedAt : State → ℕ → Type 0
 IsCountedAt board p = is_counted (mark_of board p) ≡ true
 
+-- and counted as one of the greatest correspondence for some number of frames
+abbrev pub IsKnownAt : State → ℕ → Type 0
+IsKnownAt board p = (j : ℕ) × (mark_of board p ≡ Proved (used.Known j))
+
 -- what a split leaves of a mark: a known pair stays counted
 abbrev pub lasting : Mark → Mark
 lasting Open = Open
