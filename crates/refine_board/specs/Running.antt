@@ -50,6 +50,11 @@ pub record IsOfRun (pair : Pair) (k workers : ℕ) (opening : State) (version fi
   pub list_is : shelves ≡ list
   pub current_is : IfSome current (λ s. IsStampOf list s version)
 
+-- the stamp is the one of the offers since the last split
+abbrev pub IsStampedAs : Option Stamped → Stamped → Type 0
+IsStampedAs None s = ⊥
+IsStampedAs (Some c) s = c.index ≡ s.index
+
 -- no place below the cursor is open
 abbrev pub IsPassedBy : ℕ → State → ℕ → Type 0
 IsPassedBy places state cursor = (m : ℕ) → m < cursor → IsOpen places state m → ⊥

@@ -7,7 +7,7 @@ ghost use Rattle.circ_model.specs.Meaning.{places_of};
 ghost use Rattle.class_partition.specs.Classes.{AreOfGreatest};
 ghost use Rattle.refine_board.specs.States.{AllCounted, NoneOpen, SomeOut};
 ghost use Rattle.refine_board.specs.Schedules.{Leads, opened};
-ghost use Rattle.refine_board.specs.Running.{Appends, Counts, IsAbout, IsUnder, IsOf};
+ghost use Rattle.refine_board.specs.Running.{Appends, Counts, IsAbout, IsStampedAs, IsUnder, IsOf};
 ghost use Rattle.refine_board.specs.Answers.{taken, IsCurrentOffer, IsOwnOffer, HasOneStamp, kept_step, cut_step, stamp_after};
 ghost use Rattle.verdict_stamp.specs.Published.{IsStampOf};
 
@@ -212,10 +212,12 @@ impl<'v, 'p, L: Run> Board<'v, 'p, L> {
         is_under(version, now.product(), now.k(), now.classes())
     }
 
-    /// Whether a stamp of the run's list is that of the board's version. Nothing is compared but two indices.
+    /// Whether a stamp of the run's list is that of the offers since the last split, and so of the board's version. Nothing is compared but
+    /// two indices.
     pub fn is_stamped(&self, stamp: &Stamp<'p>) -> bool
         requires { Shows L.list stamp.now }
-        ensures { result ≡ true → IsUnder L.pair L.k self.now.state.classes stamp.now.value }
+        ensures version { result ≡ true → IsUnder L.pair L.k self.now.state.classes stamp.now.value }
+        ensures exact { IsTrue result ↔ IsStampedAs self.now.current stamp.now }
     {
         match &self.current {
             Some(current) => self.versions.same(current, stamp),

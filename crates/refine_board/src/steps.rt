@@ -162,7 +162,7 @@ impl<'v, 'p, L: Run> Board<'v, 'p, L> {
         version.product().same(self.version.product())
     }
 
-    // Whether a verdict for an offer counts. Nothing is compared but indices and places where it rests on what is known.
+    // Whether a verdict for an offer counts. Where it rests on what is known no classes are compared.
     pub(crate) fn counts(
         &self,
         offer: &Offer<'p, L>,
