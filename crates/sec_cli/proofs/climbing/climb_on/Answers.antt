@@ -2,7 +2,7 @@ use Rattle.std.proofs.Common.{◌≡◌, ◌<◌, ℕ, subst, refl, arith}
 use Rattle.command_line.specs.Asked.{ClimbAsked, climb_asked}
 use Rattle.circ_model.specs.Meaning.{Pair}
 use Rattle.sec_cli.proofs.Depths.{IsSoFar, goes_on, ends}
-use Rattle.sec_cli.proofs.climbing.climb_pair.Goals as goal
+use Rattle.sec_cli.proofs.climbing.climb_on.Goals as goal
 
 pub loop-k-preserved : goal.loop-k-preserved
 loop-k-preserved g c =
