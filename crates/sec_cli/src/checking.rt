@@ -101,7 +101,7 @@ fn deeper_difference(
     if c.depth <= agreed {
         return Ok(None);
     }
-    least_difference_beyond(alloc, product, classes, c.depth)
+    least_difference_beyond(alloc, product, classes, 1, c.depth)
 }
 
 // The answer by the classes of the greatest correspondence, where no run differs in the first frames. Where the classes pair all
