@@ -1,14 +1,17 @@
 -- A climb from one depth of the induction to the next.
-use Rattle.std.proofs.Common.{◌≡◌, ◌≢◌, ◌<◌, ◌≤◌, ◌+◌, ◌==◌, ◌∙◌, ℕ, Bool, true, false, not, List, Option, None, Some, is_some, IsTrue, IsSomeAnd, MatchBool, refl, ap, sym, subst, arith, eqb-true}
+use Rattle.std.proofs.Common.{◌≡◌, ◌≢◌, ◌<◌, ◌≤◌, ◌+◌, ◌==◌, ◌∙◌, ℕ, Bool, true, false, not, List, Option, None, Some, is_some, IfSome, IsTrue, IsSomeAnd, MatchBool, refl, ap, sym, subst, arith, eqb-true}
 use Rattle.std.proofs.lemmas.Bool.{ne_eqb}
 use Rattle.circ_model.specs.Meaning.{Pair}
-use Rattle.circ_model.specs.Verdict.{Verdict, Equivalent, Different, Undecided}
+use Rattle.circ_model.specs.Verdict.{AgreeBelow, Verdict, Equivalent, Different, Undecided}
+use Rattle.verdict_stamp.specs.Known.{Refined}
+use Rattle.split_workers.specs.Refined.{IsKnownFor}
 use Rattle.refine_board.specs.Running.{Written}
 use Rattle.command_line.specs.Asked.{CheckAsked, ClimbAsked, ForClimb}
+use Rattle.sec_cli.specs.declared.checking.Reached.{Reached}
 use Rattle.sec_cli.specs.declared.ending.Answer.{Answer}
 use Rattle.run_texts.specs.Verdicts.{status_of_verdict}
 use Rattle.sec_cli.specs.Answers.{IsCheckAnswer, IsJournalOf, IsRefinedText, IsVerdictText, IsVerdictAnswer, is_refined}
-use Rattle.sec_cli.specs.Climbs.{IsOpen, IsLastTried, IsJournalBefore, IsClimbAnswer, check_of_climb}
+use Rattle.sec_cli.specs.Climbs.{IsOpen, IsLastTried, IsJournalBefore, IsClimbAnswer, IsReached, check_of_climb}
 use Rattle.sec_cli.specs.Endings.{HasJournal}
 
 -- nothing was decided below this depth, and this is the journal of the refinement before it
@@ -87,3 +90,16 @@ has_journal c before a b has same journal other = go (a.status == 1) refl journa
     go : (x : Bool) → (a.status == 1) ≡ x → MatchBool x (b.journal ≡ before) (b.journal ≡ a.journal) → IsTrue (is_some b.journal)
     go true e j = absurd (other (same ∙ eqb-true a.status 1 e))
     go false e j = ap is_some j ∙ has ∙ ap not e
+
+agree_at : (pair : Pair) (c : ClimbAsked) (k : ℕ) (a : Answer) → IsCheckAnswer pair (check_of_climb c k) a → a.status ≡ 2 → AgreeBelow pair k
+agree_at pair c k a (Equivalent n, is, status, text) two = absurd (omega (arith, status, two))
+agree_at pair c k a (Different t j, is, status, text) two = absurd (omega (arith, status, two))
+agree_at pair c k a (Undecided n u, is, status, text) two = is.0
+
+for_more : (pair : Pair) (k : ℕ) (o : Option Refined) → IfSome o (λ n. (n.pair ≡ pair) × (n.k ≡ k)) → IfSome o (IsKnownFor pair (k + 1))
+for_more pair k None h = h
+for_more pair k (Some n) h = (h.0, omega (arith, h.1))
+
+-- what is known before the next depth
+pub reaches : (pair : Pair) (c : ClimbAsked) (k : ℕ) (a : Answer) (r : Reached) → IsCheckAnswer pair (check_of_climb c k) a → a.status ≡ 2 → r.agreed ≡ k → IfSome r.known (λ n. (n.pair ≡ pair) × (n.k ≡ k)) → IsReached pair (k + 1) r
+reaches pair c k a r is two agreed known = (subst (AgreeBelow pair) (sym agreed) (agree_at pair c k a is two), for_more pair k r.known known)

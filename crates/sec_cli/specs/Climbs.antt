@@ -13,9 +13,9 @@ use Rattle.sec_cli.specs.Answers.{IsCheckAnswer, IsJournalOf}
 abbrev pub check_of_climb : ClimbAsked → ℕ → CheckAsked
 check_of_climb c k = record { left = c.left; right = c.right; k = k; depth = k; workers = c.workers; classes = false; stats = false; trace = None; cert = None; tied = false; least = c.least }
 
--- the outputs agree in the first frames, one at least, and the classes that are known, if any, are of no greater k
+-- the outputs agree in the first frames, and the classes that are known, if any, are of no greater k
 abbrev pub IsReached : Pair → ℕ → Reached → Type 0
-IsReached pair k r = (0 < r.agreed) × AgreeBelow pair r.agreed × IfSome r.known (IsKnownFor pair k)
+IsReached pair k r = AgreeBelow pair r.agreed × IfSome r.known (IsKnownFor pair k)
 
 -- induction over k frames, and a search for a difference in the first k, decide nothing
 abbrev pub IsOpen : Pair → ℕ → Type 0

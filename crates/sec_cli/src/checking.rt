@@ -101,7 +101,7 @@ fn deeper_difference(
     if c.depth <= agreed {
         return Ok(None);
     }
-    least_difference_beyond(alloc, product, classes, 1, c.depth)
+    least_difference_beyond(alloc, product, classes, agreed, c.depth)
 }
 
 // The answer by the classes of the greatest correspondence, where no run differs in the first frames. Where the classes pair all
@@ -282,7 +282,7 @@ fn refine_from<'p, R: Threads + Wait + Sync, G: Gate>(
     gate: &G,
 ) -> Result<Refined<'p>, AllocError>
     requires within { IsCheckWithin (check_asked c.now) }
-    requires known { IfSome known.now (IsKnownFor product.entry.now c.now.k) }
+    requires known { IfSome known.now (IsKnownFor product.now c.now.k) }
     ensures { IfOk result (λ r. IsRefined product.entry.now c.now.k c.now.workers r.version r.journal.entries) }
 {
     match known {
@@ -302,7 +302,7 @@ pub(crate) fn check_beyond<'p, R: Threads + Wait + Sync, G: Gate>(
     gate: &G,
 ) -> Result<(Answer, Version<'p>), AllocError>
     requires within { IsCheckWithin (check_asked c.now) }
-    requires reached { IsReached product.entry.now c.now.k reached.now }
+    requires reached { IsReached product.now c.now.k reached.now }
     ensures answer { IfOk result (λ r. IsCheckAnswer product.entry.now (check_asked c.now) r.0) }
     ensures status { IfOk result (λ r. r.0.status ≤ 2) }
     ensures journal { IfOk result (λ r. is_some r.0.journal ≡ is_refined r.0.status) }
@@ -314,11 +314,15 @@ pub(crate) fn check_beyond<'p, R: Threads + Wait + Sync, G: Gate>(
     let Refined {
         version, journal, ..
     } = refine_from(rt, alloc, product, c, &reached.known, gate)?;
-    let answer = answer_by(alloc, product, c, version.classes(), journal, reached.agreed);
-    match answer {
-        Ok(answer) => Ok((answer, version)),
-        Err(error) => Err(error),
-    }
+    let answer = answer_by(
+        alloc,
+        product,
+        c,
+        version.classes(),
+        journal,
+        reached.agreed,
+    )?;
+    Ok((answer, version))
 }
 
 /// The verdict of a pair, as it is printed.

@@ -40,8 +40,8 @@ fn check_of<'w>(c: &Climb<'w>, k: u32) -> Check<'w>
 // What is known after a check that is undecided: its classes, and that the outputs agree in as many frames as it searched.
 fn known_after<'p>(alloc: Global, version: Version<'p>) -> Result<Reached<'p>, AllocError>
     requires greatest { AreOfGreatest version.pair version.k version.classes }
-    ensures agreed { IfOk result (λ r. r.agreed ≡ version.k) }
-    ensures known { IfOk result (λ r. IfSome r.known (λ n. (n.pair ≡ version.pair) × (n.k ≡ version.k))) }
+    ensures agreed { IfOk result (λ r. r.agreed ≡ version.entry.k) }
+    ensures known { IfOk result (λ r. IfSome r.known (λ n. (n.pair ≡ version.entry.pair) × (n.k ≡ version.entry.k))) }
 {
     let k = version.k();
     let known = Known::of(alloc, version.product(), k, version.classes());

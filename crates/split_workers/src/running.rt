@@ -130,7 +130,7 @@ fn refine_with<'p, R: Threads + Wait + Sync, G: Gate>(
     requires some { 0 < k }
     requires few { k ≤ 16 }
     requires workers { (0 < workers) × (workers ≤ 64) }
-    requires earlier { IfSome known (λ n. IsKnownFor product.entry.now k n.now) }
+    requires earlier { IfSome known (λ n. IsKnownFor product.now k n.now) }
     ensures refined { IfOk result (λ r. IsRefined product.entry.now k workers r.version r.journal.entries) }
     ensures reports { IfOk result (λ r. AreReports workers r.journal.entries r.reports.items) }
 {
@@ -188,7 +188,7 @@ pub fn refine_known<'p, R: Threads + Wait + Sync, G: Gate>(
     requires some { 0 < k }
     requires few { k ≤ 16 }
     requires workers { (0 < workers) × (workers ≤ 64) }
-    requires pair { known.now.pair ≡ product.entry.now }
+    requires pair { known.now.pair ≡ product.now }
     requires earlier { known.now.k ≤ k }
     ensures refined { IfOk result (λ r. IsRefined product.entry.now k workers r.version r.journal.entries) }
     ensures reports { IfOk result (λ r. AreReports workers r.journal.entries r.reports.items) }

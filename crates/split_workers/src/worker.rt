@@ -20,6 +20,9 @@ use std::sync::Wait;
 use std::sync::ledger::Ledger;
 use verdict_stamp::{Proof, Stamp};
 
+// So many vectors a worker holds at most. Each splits the classes for all, so one that holds many lets others prove pairs in vain.
+const MOST: u64 = 400;
+
 /// A worker, with its bench, and the offers that it holds: pairs that it found apart, each with a vector.
 #[derive(Drop)]
 pub(crate) struct Worker<'r, 'v, 'p, L: Run, E: Ledger, O: Ledger, G: Gate> {
@@ -100,7 +103,7 @@ fn find<'v, 'p, L: Run>(
 }
 
 impl<'r, 'v, 'p, L: Run, E: Ledger, O: Ledger, G: Gate> Worker<'r, 'v, 'p, L, E, O, G> {
-    // A worker that holds nothing. Its vectors have so many places each, and it holds a quarter of a gigabyte of them.
+    // A worker that holds nothing. Its vectors have so many places each, and it holds a quarter of a gigabyte of them at most.
     fn new(
         alloc: Global,
         desk: Caller<'r, 'v, 'p, L, E, O, G>,
@@ -113,7 +116,7 @@ impl<'r, 'v, 'p, L: Run, E: Ledger, O: Ledger, G: Gate> Worker<'r, 'v, 'p, L, E,
             desk,
             bench: None,
             pocket: Vec::new(alloc),
-            most: ((1u64 << 31) / (places as u64 + 1)) as usize,
+            most: MOST.min((1u64 << 31) / (places as u64 + 1)) as usize,
         }
     }
 
