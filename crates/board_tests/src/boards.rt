@@ -214,7 +214,7 @@ fn word_of(step: &Step) -> &'static str {
         Step::Offered(_) => "offered",
         Step::Idle => "idle",
         Step::Done => "done",
-        Step::Counted(_) => "counted",
+        Step::Counted(_, _) => "counted",
         Step::Stale(_) => "stale",
         Step::Split(_, _) => "split",
         Step::Already(_) => "already",
@@ -227,7 +227,7 @@ fn word_of(step: &Step) -> &'static str {
 fn numbers_of(step: &Step) -> [u32; 2] {
     match step {
         Step::Offered(pair) => [pair.rep, pair.member],
-        Step::Counted(pair) => [pair.rep, pair.member],
+        Step::Counted(pair, _) => [pair.rep, pair.member],
         Step::Stale(pair) => [pair.rep, pair.member],
         Step::Back(pair) => [pair.rep, pair.member],
         Step::Split(_, added) => [0, *added],

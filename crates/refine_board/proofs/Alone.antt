@@ -1,5 +1,5 @@
 -- Entries of a party that works alone to the end.
-use Rattle.std.proofs.Common.{◌≡◌, ◌∙◌, ◌<◌, ◌≤◌, ℕ, List, Bool, [], ◌∷◌, ◌++◌, length, set, refl, ap, ap₂, sym, subst, arith, ⊎_elim, slice_index_or, Option, None, get_or-set_same}
+use Rattle.std.proofs.Common.{◌≡◌, ◌∙◌, ◌<◌, ◌≤◌, ℕ, List, Bool, true, [], ◌∷◌, ◌++◌, length, set, refl, ap, ap₂, sym, subst, arith, ⊎_elim, slice_index_or, Option, None, get_or-set_same}
 use Rattle.std.proofs.lemmas.Bool.{cases_lt}
 use Rattle.std.proofs.lemmas.List.{append-nil, append_assoc, length-set, get_or_past}
 use Rattle.class_partition.specs.declared.classes.Needed.{Needed}
@@ -14,7 +14,7 @@ use Rattle.refine_board.specs.declared.journal.Step.TheVariants.{Offered, Idle, 
 use Rattle.refine_board.specs.declared.journal.Entry.{Entry}
 use Rattle.refine_board.specs.declared.answers.Cut.{Cut}
 use Rattle.refine_board.specs.declared.answers.Cut.TheVariants as cut_as
-use Rattle.refine_board.specs.States.{State, IsNeededPair, mark_of, offer_of}
+use Rattle.refine_board.specs.States.{State, IsNeededPair, is_counted, mark_of, offer_of}
 use Rattle.refine_board.specs.Schedules.{Does, IsStep}
 use Rattle.refine_board.specs.Running.{Running, Appends, next_entry}
 use Rattle.refine_board.specs.Answers.{cut_step}
@@ -22,10 +22,10 @@ use Rattle.refine_board.specs.Closings.{DecidesPair, IsDecidedNext, IsClosingSte
 use Rattle.refine_board.proofs.Counting.{not_both}
 
 -- a pair that isn't open or counted is out
-pub mark_out : (m : Mark) → (m ≡ Open → ⊥) → (m ≡ Proved → ⊥) → m ≡ Out
+pub mark_out : (m : Mark) → (m ≡ Open → ⊥) → (is_counted m ≡ true → ⊥) → m ≡ Out
 mark_out Open closed wanted = absurd (closed refl)
 mark_out Out closed wanted = refl
-mark_out Proved closed wanted = absurd (wanted refl)
+mark_out (Proved w) closed wanted = absurd (wanted refl)
 
 pub same_needed : (classes : Classes) (p q : Needed) → p.member ≡ q.member → least_of classes p.member ≡ p.rep → least_of classes q.member ≡ q.rep → p ≡ q
 same_needed classes p q member rep_p rep_q = ap₂ (λ (r m : ℕ). record { rep = r; member = m }) (sym rep_p ∙ ap (least_of classes) member ∙ rep_q) member
@@ -37,7 +37,7 @@ more_next classes p (x ∷ xs) ys is = is
 
 more_step : (places : ℕ) (board : State) (s : Step) (xs ys : List Entry) → IsClosingStep places board s xs → IsClosingStep places board s (xs ++ ys)
 more_step places board (Offered p) xs ys is = more_next board.classes p xs ys is
-more_step places board (Counted p) xs ys is = is
+more_step places board (Counted p w) xs ys is = is
 more_step places board (Split bits n) xs ys is = is
 more_step places board Idle xs ys is = absurd is
 more_step places board Done xs ys is = absurd is
@@ -59,7 +59,7 @@ closes_more places party a b c (xs, is_xs, leads_xs) (ys, is_ys, leads_ys) =
 
 -- a decision on a pair that is out
 decided : (places : ℕ) (board : State) (p : Needed) (s : Step) → IsNeededPair places board.classes p → mark_of board p.member ≡ Out → DecidesPair board.classes p s → IsClosingStep places board s []
-decided places board p (Counted q) need out is = ap (λ (x : Needed). mark_of board x.member) is ∙ out
+decided places board p (Counted q w) need out is = ap (λ (x : Needed). mark_of board x.member) is ∙ out
 decided places board p (Split bits n) need out is = (p, need, out, is)
 decided places board p (Offered q) need out is = absurd is
 decided places board p Idle need out is = absurd is
@@ -107,7 +107,7 @@ settled_step places party e rest before after own step closing last = of e.step 
   where
     of : (s : Step) → Does places e.worker s before after → IsClosingStep places before s rest → offer_of after party ≡ None
     of (Offered p) does closing = absurd (subst (IsDecidedNext before.classes p) last closing)
-    of (Counted p) does closing = ap (λ (b : State). offer_of b party) does.1 ∙ ap (λ (q : ℕ). slice_index_or (set before.offers q None) party None) own ∙ none_at before.offers party
+    of (Counted p w) does closing = ap (λ (b : State). offer_of b party) does.1 ∙ ap (λ (q : ℕ). slice_index_or (set before.offers q None) party None) own ∙ none_at before.offers party
     of (Split bits n) (classes, split, some, count, e_is) closing = ap (λ (b : State). offer_of b party) e_is ∙ ap (λ (q : ℕ). slice_index_or (set before.offers q None) party None) own ∙ none_at before.offers party
     of Idle does closing = absurd closing
     of Done does closing = absurd closing

@@ -5,7 +5,8 @@ use Rattle.class_partition.specs.Classes.{IsNeeded, class_count, needed}
 use Rattle.class_partition.specs.declared.classes.Needed.{Needed}
 use Rattle.refine_board.specs.declared.marks.Mark.TheVariants.{Open, Out, Proved}
 use Rattle.refine_board.specs.declared.journal.Step.TheVariants.{Counted, Offered}
-use Rattle.refine_board.specs.States.{State, mark_of, called, cleared, marked, offered}
+use Rattle.verdict_stamp.specs.declared.used.Used.{Used}
+use Rattle.refine_board.specs.States.{State, IsCountedAt, is_counted, called, cleared, marked, offered}
 use Rattle.refine_board.specs.Schedules.{Does}
 use Rattle.refine_board.specs.declared.answers.Cut.{Cut}
 use Rattle.refine_board.specs.declared.answers.Cut.TheVariants as cut_as
@@ -13,20 +14,20 @@ use Rattle.refine_board.specs.Answers.{cut_step}
 use Rattle.refine_board.specs.Running.{Running, Appends, AreCountedBelow}
 use Rattle.verdict_stamp.specs.Versions.{Separates}
 
-pub counted_more : (places : ℕ) (board : State) (p : ℕ) → AreCountedBelow places board p → (IsNeeded places board.classes p → mark_of board p ≡ Proved) → AreCountedBelow places board (p + 1)
+pub counted_more : (places : ℕ) (board : State) (p : ℕ) → AreCountedBelow places board p → (IsNeeded places board.classes p → IsCountedAt board p) → AreCountedBelow places board (p + 1)
 counted_more places board p below here m lt need = ⊎_elim
-    (λ (e : m ≡ p). ap (mark_of board) e ∙ here (subst (IsNeeded places board.classes) e need))
+    (λ (e : m ≡ p). subst (IsCountedAt board) (sym e) (here (subst (IsNeeded places board.classes) e need)))
     (λ (ne : m ≡ p → ⊥). below m (omega arith) need)
     (cases_eq m p)
 
-pub counted_step : (places party : ℕ) (p : Needed) (before after : State) → length before.marks ≡ places → Does places party (Counted p) before after → AreCountedBelow places before p.member
+pub counted_step : (places party : ℕ) (p : Needed) (w : Used) (before after : State) → length before.marks ≡ places → Does places party (Counted p w) before after → AreCountedBelow places before p.member
     → (after.classes ≡ before.classes) × AreCountedBelow places after (p.member + 1)
-counted_step places party p before after len does below =
-    let new : State = called party (cleared party (marked p.member Proved before)) in
+counted_step places party p w before after len does below =
+    let new : State = called party (cleared party (marked p.member (Proved w) before)) in
     let in_marks : p.member < length before.marks = omega (arith, len, does.0.0.0) in
     let at_new : AreCountedBelow places new (p.member + 1) = λ m lt need. ⊎_elim
-    (λ (e : m ≡ p.member). ap (λ (i : ℕ). slice_index_or (set before.marks p.member Proved) i Open) e ∙ get_or-set_same before.marks p.member Proved Open in_marks)
-    (λ (ne : m ≡ p.member → ⊥). get_or-set_other before.marks p.member m Proved Open ne ∙ below m (omega arith) need)
+    (λ (e : m ≡ p.member). ap (λ (i : ℕ). is_counted (slice_index_or (set before.marks p.member (Proved w)) i Open)) e ∙ ap is_counted (get_or-set_same before.marks p.member (Proved w) Open in_marks))
+    (λ (ne : m ≡ p.member → ⊥). ap is_counted (get_or-set_other before.marks p.member m (Proved w) Open ne) ∙ below m (omega arith) need)
     (cases_eq m p.member) in
     (ap (λ (b : State). b.classes) does.1, subst (λ (b : State). AreCountedBelow places b (p.member + 1)) (sym does.1) at_new)
 
@@ -35,7 +36,7 @@ pub offered_below : (places party : ℕ) (p : Needed) (before after : State) →
     → (after.classes ≡ before.classes) × AreCountedBelow places after p.member
 offered_below places party p before after does below =
     let new : State = called party (offered party p before) in
-    let at_new : AreCountedBelow places new p.member = λ m lt need. get_or-set_other before.marks p.member m Out Open (λ (e : m ≡ p.member). omega (arith, e, lt)) ∙ below m lt need in
+    let at_new : AreCountedBelow places new p.member = λ m lt need. ap is_counted (get_or-set_other before.marks p.member m Out Open (λ (e : m ≡ p.member). omega (arith, e, lt))) ∙ below m lt need in
     (ap (λ (b : State). b.classes) does.1, subst (λ (b : State). AreCountedBelow places b p.member) (sym does.1) at_new)
 
 pub not_both : (a b : Bool) → a ≡ b → a ≡ not b → ⊥

@@ -1,12 +1,17 @@
 -- What a verdict under the board's classes shows.
-use Rattle.std.proofs.Common.{◌≡◌, ◌∙◌, ◌<◌, ℕ, List, Bool, true, false, not, refl, ap, ap₂, sym, subst, arith}
+use Rattle.std.proofs.Common.{◌≡◌, ◌∙◌, ◌<◌, ◌≤◌, ℕ, List, Bool, true, false, not, refl, ap, ap₂, sym, subst, arith}
 use Rattle.std.proofs.lemmas.List.{ext_get_or}
-use Rattle.circ_model.specs.Meaning.{Pair, places_of}
+use Rattle.circ_model.specs.Meaning.{Pair, bit, literal, places_of, signed}
 use Rattle.class_partition.specs.declared.classes.Needed.{Needed}
-use Rattle.class_partition.specs.Classes.{Classes, ArePartition, IsNeeded, Passes, least_of, phase_of}
-use Rattle.verdict_stamp.specs.Versions.{Standing, Passed, IsPassed}
+use Rattle.class_partition.specs.Classes.{Classes, ArePartition, IsNeeded, Passes, least_of, needed, phase_of}
+use Rattle.circ_model.specs.Correspondence.{Corresponds}
+use Rattle.circ_model.specs.Runs.{phases}
+use Rattle.verdict_stamp.specs.declared.used.Used.{Used}
+use Rattle.verdict_stamp.specs.declared.used.Used.TheVariants as used
+use Rattle.verdict_stamp.specs.Versions.{Standing, Passed, IsPassed, IsKnown}
 use Rattle.refine_board.specs.States.{IsNeededPair}
-use Rattle.refine_board.specs.Running.{IsAbout, IsAsked, IsUnder}
+use Rattle.refine_board.specs.Schedules.{RestsOn}
+use Rattle.refine_board.specs.Running.{Counts, CountsBy, IsAbout, IsAsked, IsUnder}
 
 pub counted_pair : (pair : Pair) (k : ℕ) (classes : Classes) (w : Passed) (p : Needed) → IsPassed w → IsUnder pair k classes w.version → IsAbout w p → IsNeededPair (places_of pair) classes p × Passes pair k classes p.member
 counted_pair pair k classes w p is under about =
@@ -19,6 +24,33 @@ counted_pair pair k classes w p is under about =
     let rep_1 : least_of classes w.member ≡ p.rep = subst (λ (c : Classes). least_of c w.member ≡ p.rep) under.2 about.1 in
     let rep_2 : least_of classes p.member ≡ p.rep = subst (λ (m : ℕ). least_of classes m ≡ p.rep) about.0 rep_1 in
     ((needed_3, rep_2), subst (Passes pair k classes) about.0 passes_3)
+
+-- what a verdict that counts shows of its pair
+abbrev pub IsJudged : Pair → ℕ → Classes → Needed → Used → Type 0
+IsJudged pair k classes p w = IsNeededPair (places_of pair) classes p × RestsOn pair k classes p.member w
+
+counted_by_version : (pair : Pair) (k : ℕ) (classes : Classes) (w : Passed) (p : Needed) → IsPassed w → IsAbout w p → IsUnder pair k classes w.version → IsJudged pair k classes p used.Version
+counted_by_version pair k classes w p is about under = counted_pair pair k classes w p is under about
+
+-- a known pair of a version is known of all classes by the same phases with that least place
+counted_by_known : (pair : Pair) (k : ℕ) (classes : Classes) (w : Passed) (p : Needed) (j : ℕ) → IsPassed w → IsAbout w p → w.used ≡ used.Known j → w.version.classes.phase ≡ phases w.version.pair → classes.phase ≡ phases pair
+    → CountsBy pair k classes w (used.Known j) → IsJudged pair k classes p (used.Known j)
+counted_by_known pair k classes w p j is about known found own (pair_is, k_is, need) =
+    let phase : w.version.classes.phase ≡ classes.phase = found ∙ ap phases pair_is ∙ sym own in
+    let m : ℕ = w.member in
+    let is_known = is.known j known in
+    let same : needed w.version.classes m ≡ needed classes m = ap₂ (λ (q : ℕ) (bits : List Bool). (literal q false, literal m (signed (bit bits q) (bit bits m)))) (sym need.1) phase in
+    let k1 : Corresponds pair j (needed w.version.classes m).0 (needed w.version.classes m).1 = subst (λ (x : Pair). Corresponds x j (needed w.version.classes m).0 (needed w.version.classes m).1) pair_is is_known.2 in
+    let k2 : Corresponds pair j (needed classes m).0 (needed classes m).1 = subst (λ (x : ℕ × ℕ). Corresponds pair j x.0 x.1) same k1 in
+    let le : j ≤ k = subst (λ (n : ℕ). j ≤ n) k_is is_known.1 in
+    ((subst (IsNeeded (places_of pair) classes) about.0 need.0, ap (least_of classes) (sym about.0) ∙ need.1 ∙ about.1), (is_known.0, le, subst (IsKnown pair j classes) about.0 k2))
+
+pub judged : (pair : Pair) (k : ℕ) (classes : Classes) (w : Passed) (p : Needed) → IsPassed w → IsAbout w p → w.version.classes.phase ≡ phases w.version.pair → classes.phase ≡ phases pair → Counts pair k classes w → IsJudged pair k classes p w.used
+judged pair k classes w p is about found own counts = of w.used refl counts
+  where
+    of : (u : Used) → w.used ≡ u → CountsBy pair k classes w u → IsJudged pair k classes p u
+    of used.Version e counts = counted_by_version pair k classes w p is about counts
+    of (used.Known j) e counts = counted_by_known pair k classes w p j is about e found own counts
 
 pub not_true : (b : Bool) → not b ≡ true → b ≡ false
 not_true true e = cc

@@ -1,3 +1,4 @@
+pub mod Lasting
 pub mod Supported
 pub mod Splits
 pub mod Offers

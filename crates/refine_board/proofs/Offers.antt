@@ -48,7 +48,7 @@ tri_half (suc n) = let h = tri_is (suc n) in let e : suc n - 1 ≡ n = omega ari
 abbrev pub is_open : Mark → Bool
 is_open Open = true
 is_open Out = false
-is_open Proved = false
+is_open (Proved w) = false
 
 -- a needed pair that waits to be offered
 abbrev pub is_waiting : State → ℕ → Bool
@@ -122,9 +122,9 @@ reopen_ahead places offer board =
     omega arith
 
 split_ahead : (places n : ℕ) (classes : Classes) (board : State) → 1 ≤ n → class_count places classes ≡ class_count places board.classes + n → class_count places classes ≤ places
-    → ahead places (divided places classes board) ≤ ahead places board
+    → ahead places (divided classes board) ≤ ahead places board
 split_ahead places n classes board some count most =
-    let w = waiting_below places (divided places classes board) in
+    let w = waiting_below places (divided classes board) in
     let fewer : suc (places - class_count places classes) ≤ pairs_needed places board = omega arith in
     let up = tri_le (suc (places - class_count places classes)) (pairs_needed places board) fewer in
     let next : tri (suc (places - class_count places classes)) ≡ (places - class_count places classes) + tri (places - class_count places classes) = tri_next (places - class_count places classes) in
@@ -135,13 +135,13 @@ pub spends : (pair : Pair) (k party : ℕ) (event : Step) (before after : State)
 spends pair k party (Offered p) before after is does = let e = same_ahead (places_of pair) after (called party (offered party p before)) does.1 in let h = unoffered pair k p before is does.0 in omega arith
 spends pair k party Idle before after is does = let e = same_ahead (places_of pair) after (called party before) does.2 in omega arith
 spends pair k party Done before after is does = let e = same_ahead (places_of pair) after (called party before) does.1 in omega arith
-spends pair k party (Counted p) before after is does = let e = same_ahead (places_of pair) after (called party (cleared party (marked p.member Proved before))) does.1 in let h = after_write (places_of pair) p.member Proved before refl in omega arith
+spends pair k party (Counted p w) before after is does = let e = same_ahead (places_of pair) after (called party (cleared party (marked p.member (Proved w) before))) does.1 in let h = after_write (places_of pair) p.member (Proved w) before refl in omega arith
 spends pair k party (Stale p) before after is does = let e = same_ahead (places_of pair) after (called party (released party before)) does in let h = reopen_ahead (places_of pair) (offer_of before party) before in omega arith
 spends pair k party (Back p) before after is does = let e = same_ahead (places_of pair) after (called party (released party before)) does in let h = reopen_ahead (places_of pair) (offer_of before party) before in omega arith
 spends pair k party Foreign before after is does = let e = same_ahead (places_of pair) after (called party (released party before)) does in let h = reopen_ahead (places_of pair) (offer_of before party) before in omega arith
 spends pair k party (Already bits) before after is does = let e = same_ahead (places_of pair) after (called party (released party before)) does.1 in let h = reopen_ahead (places_of pair) (offer_of before party) before in omega arith
 spends pair k party (Split bits n) before after is (classes, split, some, count, at) =
-    let e = same_ahead (places_of pair) after (called party (cleared party (divided (places_of pair) classes before))) at in
+    let e = same_ahead (places_of pair) after (called party (cleared party (divided classes before))) at in
     let h = split_ahead (places_of pair) n classes before some count (count_most (places_of pair) classes) in
     omega arith
 

@@ -41,7 +41,7 @@ late_step places workers party (Offered p) before after inside is order does =
     omega arith
 late_step places workers party Idle before after inside is order does = let e = ap (outdated (workers + 1)) does.2 in omega arith
 late_step places workers party Done before after inside is order does = let e = ap (outdated (workers + 1)) does.1 in omega arith
-late_step places workers party (Counted p) before after inside is order does = let h = outdated_write (workers + 1) party None before after refl (ap number_of does.1) (ap offers_of does.1) in omega arith
+late_step places workers party (Counted p w) before after inside is order does = let h = outdated_write (workers + 1) party None before after refl (ap number_of does.1) (ap offers_of does.1) in omega arith
 late_step places workers party (Stale p) before after inside is (o, at, named) does =
     let h = outdated_clear (workers + 1) party before after is.offers (stale_is_outdated before party o at named.1) (released_number party before after does) (released_offers party before after does) in
     omega arith
@@ -64,7 +64,7 @@ spends_in_order : (pair : Pair) (k parties party : ℕ) (event : Step) (before a
 spends_in_order pair k parties party (Offered p) before after is timely order does = spends pair k party (Offered p) before after is does
 spends_in_order pair k parties party Idle before after is timely order does = spends pair k party Idle before after is does
 spends_in_order pair k parties party Done before after is timely order does = spends pair k party Done before after is does
-spends_in_order pair k parties party (Counted p) before after is timely order does = spends pair k party (Counted p) before after is does
+spends_in_order pair k parties party (Counted p w) before after is timely order does = spends pair k party (Counted p w) before after is does
 spends_in_order pair k parties party (Stale p) before after is timely (o, at, named) does = let e = kept_ahead (places_of pair) party o before after at named.1 does in omega arith
 spends_in_order pair k parties party (Back p) before after is timely order does = spends pair k party (Back p) before after is does
 spends_in_order pair k parties party Foreign before after is timely order does = absurd order
@@ -91,12 +91,12 @@ calls_stay places party event before after does = at event does
     at (Offered p) does = called_length (offered party p before) refl does.1
     at Idle does = called_length before refl does.2
     at Done does = called_length before refl does.1
-    at (Counted p) does = called_length (cleared party (marked p.member Proved before)) refl does.1
+    at (Counted p w) does = called_length (cleared party (marked p.member (Proved w) before)) refl does.1
     at (Stale p) does = called_length (released party before) (calls_of_reopened (offer_of before party) before) does
     at (Back p) does = called_length (released party before) (calls_of_reopened (offer_of before party) before) does
     at Foreign does = called_length (released party before) (calls_of_reopened (offer_of before party) before) does
     at (Already bits) does = called_length (released party before) (calls_of_reopened (offer_of before party) before) does.1
-    at (Split bits n) (classes, split, some, count, e) = called_length (cleared party (divided places classes before)) refl e
+    at (Split bits n) (classes, split, some, count, e) = called_length (cleared party (divided classes before)) refl e
 
 no_offer : {P : Type 0} (n q : ℕ) (o : LastOffer) → slice_index_or (replicate n None) q None ≡ Some o → P
 no_offer zero q o at = cc

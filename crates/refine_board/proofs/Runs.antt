@@ -69,7 +69,7 @@ keeps places party (Offered p) before after does =
     subst (Keeps places party before) (sym does.1) (record { calls = refl; offers = length-set before.offers party (Some (record { pair = p; number = before.number })); within = within_offered places party p before does.0.0.0.0 })
 keeps places party Idle before after does = subst (Keeps places party before) (sym does.2) (record { calls = refl; offers = refl; within = λ h. h })
 keeps places party Done before after does = subst (Keeps places party before) (sym does.1) (record { calls = refl; offers = refl; within = λ h. h })
-keeps places party (Counted p) before after does =
+keeps places party (Counted p w) before after does =
     subst (Keeps places party before) (sym does.1) (record { calls = refl; offers = length-set before.offers party None; within = λ h q o e. h q o (was_there before.offers party q None None (Some o) (none_is o) e) })
 keeps places party (Stale p) before after does = subst (Keeps places party before) (sym does) (keeps_released places party before)
 keeps places party (Back p) before after does = subst (Keeps places party before) (sym does) (keeps_released places party before)
@@ -121,7 +121,7 @@ frees_does pair k party (Already bits) before after frees e = ((frees.0, e), fre
 frees_does pair k party (Offered p) before after frees e = absurd frees
 frees_does pair k party Idle before after frees e = absurd frees
 frees_does pair k party Done before after frees e = absurd frees
-frees_does pair k party (Counted p) before after frees e = absurd frees
+frees_does pair k party (Counted p w) before after frees e = absurd frees
 frees_does pair k party (Split bits n) before after frees e = absurd frees
 
 zeros : (n q : ℕ) → slice_index (replicate n 0) q ≡ 0

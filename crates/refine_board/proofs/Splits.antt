@@ -34,7 +34,7 @@ Makes places (Split bits n) before after = IsSplit places before bits after × (
 Makes places (Offered p) before after = after ≡ before
 Makes places Idle before after = after ≡ before
 Makes places Done before after = after ≡ before
-Makes places (Counted p) before after = after ≡ before
+Makes places (Counted p w) before after = after ≡ before
 Makes places (Stale p) before after = after ≡ before
 Makes places (Back p) before after = after ≡ before
 Makes places Foreign before after = after ≡ before
@@ -45,12 +45,12 @@ of_classes b c e = ap (λ (x : State). x.classes) e
 
 pub makes : (places party : ℕ) (event : Step) (before after : State) → Does places party event before after → Makes places event before.classes after.classes
 makes places party (Split bits n) before after (classes, split, some, count, e) =
-    let at : after.classes ≡ classes = of_classes after (called party (cleared party (divided places classes before))) e in
+    let at : after.classes ≡ classes = of_classes after (called party (cleared party (divided classes before))) e in
     subst (λ (c : Classes). IsSplit places before.classes bits c × (1 ≤ n) × (class_count places c ≡ class_count places before.classes + n)) (sym at) (split, some, count)
 makes places party (Offered p) before after does = of_classes after (called party (offered party p before)) does.1
 makes places party Idle before after does = of_classes after (called party before) does.2
 makes places party Done before after does = of_classes after (called party before) does.1
-makes places party (Counted p) before after does = of_classes after (called party (cleared party (marked p.member Proved before))) does.1
+makes places party (Counted p w) before after does = of_classes after (called party (cleared party (marked p.member (Proved w) before))) does.1
 makes places party (Stale p) before after does = of_classes after (called party (released party before)) does ∙ classes_of_reopened (offer_of before party) before
 makes places party (Back p) before after does = of_classes after (called party (released party before)) does ∙ classes_of_reopened (offer_of before party) before
 makes places party Foreign before after does = of_classes after (called party (released party before)) does ∙ classes_of_reopened (offer_of before party) before
@@ -61,7 +61,7 @@ same_phase places (Split bits n) before after makes = makes.0.phase
 same_phase places (Offered p) before after makes = ap (λ (c : Classes). c.phase) makes
 same_phase places Idle before after makes = ap (λ (c : Classes). c.phase) makes
 same_phase places Done before after makes = ap (λ (c : Classes). c.phase) makes
-same_phase places (Counted p) before after makes = ap (λ (c : Classes). c.phase) makes
+same_phase places (Counted p w) before after makes = ap (λ (c : Classes). c.phase) makes
 same_phase places (Stale p) before after makes = ap (λ (c : Classes). c.phase) makes
 same_phase places (Back p) before after makes = ap (λ (c : Classes). c.phase) makes
 same_phase places Foreign before after makes = ap (λ (c : Classes). c.phase) makes
@@ -81,7 +81,7 @@ splits_grow places (Split bits n) before after makes = let some = makes.1 in let
 splits_grow places (Offered p) before after makes = let e = ap (class_count places) makes in omega arith
 splits_grow places Idle before after makes = let e = ap (class_count places) makes in omega arith
 splits_grow places Done before after makes = let e = ap (class_count places) makes in omega arith
-splits_grow places (Counted p) before after makes = let e = ap (class_count places) makes in omega arith
+splits_grow places (Counted p w) before after makes = let e = ap (class_count places) makes in omega arith
 splits_grow places (Stale p) before after makes = let e = ap (class_count places) makes in omega arith
 splits_grow places (Back p) before after makes = let e = ap (class_count places) makes in omega arith
 splits_grow places Foreign before after makes = let e = ap (class_count places) makes in omega arith
@@ -112,7 +112,7 @@ unsplit pair k (Split bits n) before after is of ok makes =
 unsplit pair k (Offered p) before after is of ok makes = (makes, refl)
 unsplit pair k Idle before after is of ok makes = (makes, refl)
 unsplit pair k Done before after is of ok makes = (makes, refl)
-unsplit pair k (Counted p) before after is of ok makes = (makes, refl)
+unsplit pair k (Counted p w) before after is of ok makes = (makes, refl)
 unsplit pair k (Stale p) before after is of ok makes = (makes, refl)
 unsplit pair k (Back p) before after is of ok makes = (makes, refl)
 unsplit pair k Foreign before after is of ok makes = (makes, refl)

@@ -72,7 +72,7 @@ timely_offer places parties party p board need is =
       now = λ q o at same. ⊎_elim (λ (h : (q ≡ party) × (Some new ≡ Some o)). let e : new ≡ o = cc in subst (λ (x : LastOffer). IsNeededPair places board.classes x.pair) e need) (λ (h : slice_index_or board.offers q None ≡ Some o). is.now q o h same) (wrote board.offers party (Some new) q o at);
     }
 
-timely_split : (places parties : ℕ) (classes : Classes) (board : State) → IsTimely places parties board → IsTimely places parties (divided places classes board)
+timely_split : (places parties : ℕ) (classes : Classes) (board : State) → IsTimely places parties board → IsTimely places parties (divided classes board)
 timely_split places parties classes board is = record {
   offers = is.offers;
   past = λ q o at. let h = is.past q o at in omega arith;
@@ -89,9 +89,9 @@ pub timely_after : (places parties party : ℕ) (event : Step) (before after : S
 timely_after places parties party (Offered p) before after does is = subst (IsTimely places parties) (sym does.1) (timely_called places parties party (offered party p before) (timely_offer places parties party p before does.0.0 is))
 timely_after places parties party Idle before after does is = subst (IsTimely places parties) (sym does.2) (timely_called places parties party before is)
 timely_after places parties party Done before after does is = subst (IsTimely places parties) (sym does.1) (timely_called places parties party before is)
-timely_after places parties party (Counted p) before after does is = subst (IsTimely places parties) (sym does.1) (timely_called places parties party (cleared party (marked p.member Proved before)) (timely_clear places parties party (marked p.member Proved before) (record { offers = is.offers; past = is.past; now = is.now })))
+timely_after places parties party (Counted p w) before after does is = subst (IsTimely places parties) (sym does.1) (timely_called places parties party (cleared party (marked p.member (Proved w) before)) (timely_clear places parties party (marked p.member (Proved w) before) (record { offers = is.offers; past = is.past; now = is.now })))
 timely_after places parties party (Stale p) before after does is = subst (IsTimely places parties) (sym does) (timely_release places parties party before is)
 timely_after places parties party (Back p) before after does is = subst (IsTimely places parties) (sym does) (timely_release places parties party before is)
 timely_after places parties party Foreign before after does is = subst (IsTimely places parties) (sym does) (timely_release places parties party before is)
 timely_after places parties party (Already bits) before after does is = subst (IsTimely places parties) (sym does.1) (timely_release places parties party before is)
-timely_after places parties party (Split bits n) before after (classes, split, some, count, e) is = subst (IsTimely places parties) (sym e) (timely_called places parties party (cleared party (divided places classes before)) (timely_clear places parties party (divided places classes before) (timely_split places parties classes before is)))
+timely_after places parties party (Split bits n) before after (classes, split, some, count, e) is = subst (IsTimely places parties) (sym e) (timely_called places parties party (cleared party (divided classes before)) (timely_clear places parties party (divided classes before) (timely_split places parties classes before is)))

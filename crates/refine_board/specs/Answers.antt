@@ -11,6 +11,7 @@ use Rattle.refine_board.specs.declared.answers.Kept.TheVariants as kept_as
 use Rattle.refine_board.specs.declared.answers.Cut.{Cut}
 use Rattle.refine_board.specs.declared.answers.Cut.TheVariants as cut_as
 use Rattle.verdict_stamp.specs.Published.{Stamped}
+use Rattle.verdict_stamp.specs.declared.used.Used.{Used}
 use Rattle.refine_board.specs.Running.{Running, IsUnder}
 
 -- what a party is answered that asks for work
@@ -37,10 +38,10 @@ HasOneStamp before after (Offer o) = IfSome before.current (λ s. o.stamp ≡ s)
 HasOneStamp before after Idle = after.current ≡ before.current
 HasOneStamp before after Done = after.current ≡ before.current
 
--- what came of a verdict
-abbrev pub kept_step : Kept → Needed → Step
-kept_step kept_as.Counted p = step.Counted p
-kept_step kept_as.Stale p = step.Stale p
+-- what came of a verdict on a pair
+abbrev pub kept_step : Kept → Needed → Used → Step
+kept_step kept_as.Counted p w = step.Counted p w
+kept_step kept_as.Stale p w = step.Stale p
 
 -- what came of a vector
 abbrev pub cut_step : Cut → List Bool → Step

@@ -12,7 +12,7 @@ use Rattle.refine_board.specs.Running.{Running, Appends}
 
 -- the pair is counted, or the classes are split by a row that separates it
 abbrev pub DecidesPair : Classes → Needed → Step → Type 0
-DecidesPair classes p (Counted q) = q ≡ p
+DecidesPair classes p (Counted q w) = q ≡ p
 DecidesPair classes p (Split bits n) = SeparatesPair classes bits p
 DecidesPair classes p (Offered q) = ⊥
 DecidesPair classes p Idle = ⊥
@@ -29,7 +29,7 @@ IsDecidedNext classes p (e ∷ rest) = DecidesPair classes p e.step
 -- an offer, whose pair the next entry decides; or a pair that is out is decided
 abbrev pub IsClosingStep : ℕ → State → Step → List Entry → Type 0
 IsClosingStep places board (Offered p) rest = IsDecidedNext board.classes p rest
-IsClosingStep places board (Counted p) rest = mark_of board p.member ≡ Out
+IsClosingStep places board (Counted p w) rest = mark_of board p.member ≡ Out
 IsClosingStep places board (Split bits n) rest = (p : Needed) × IsNeededPair places board.classes p × (mark_of board p.member ≡ Out) × SeparatesPair board.classes bits p
 IsClosingStep places board Idle rest = ⊥
 IsClosingStep places board Done rest = ⊥

@@ -8,13 +8,15 @@ use Rattle.class_partition.specs.Classes.{Classes, HoldIn, IsNeeded, least_of}
 use Rattle.verdict_stamp.specs.Versions.{Standing, Passed}
 use Rattle.verdict_stamp.specs.Versions as vector
 use Rattle.verdict_stamp.specs.Published.{Stamped, IsStampOf}
+use Rattle.verdict_stamp.specs.declared.used.Used.{Used}
+use Rattle.verdict_stamp.specs.declared.used.Used.TheVariants as used
 use Rattle.refine_board.specs.declared.marks.Mark.{Mark}
-use Rattle.refine_board.specs.declared.marks.Mark.TheVariants.{Open, Proved}
+use Rattle.refine_board.specs.declared.marks.Mark.TheVariants.{Open}
 use Rattle.refine_board.specs.declared.marks.LastOffer.{LastOffer}
 use Rattle.refine_board.specs.declared.journal.Step.{Step}
 use Rattle.refine_board.specs.declared.journal.Step.TheVariants.{Offered, Idle, Done, Counted, Stale, Split, Already, Foreign, Back}
 use Rattle.refine_board.specs.declared.journal.Entry.{Entry}
-use Rattle.refine_board.specs.States.{State, IsOpen, mark_of, offer_of}
+use Rattle.refine_board.specs.States.{State, IsCountedAt, IsNeededPair, IsOpen, offer_of}
 use Rattle.refine_board.specs.Schedules.{IsStep, IsSupported, Leads, opened}
 
 -- a journal's entries, and how many more it has room for
@@ -108,6 +110,15 @@ IsAbout w p = (w.member ≡ p.member) × (least_of w.version.classes w.member �
 abbrev pub IsUnder : Pair → ℕ → Classes → Standing → Type 0
 IsUnder pair k classes v = (v.pair ≡ pair) × (v.k ≡ k) × (v.classes ≡ classes)
 
+-- a verdict of this pair of netlists and this k counts under classes: what rests on its version where that has these classes,
+-- and what is known where its pair is a needed pair of them
+abbrev pub CountsBy : Pair → ℕ → Classes → Passed → Used → Type 0
+CountsBy pair k classes w used.Version = IsUnder pair k classes w.version
+CountsBy pair k classes w (used.Known j) = (w.version.pair ≡ pair) × (w.version.k ≡ k) × IsNeededPair (places_of pair) classes (record { rep = least_of w.version.classes w.member; member = w.member })
+
+abbrev pub Counts : Pair → ℕ → Classes → Passed → Type 0
+Counts pair k classes w = CountsBy pair k classes w w.used
+
 -- the vector is of this pair of netlists and this k
 abbrev pub IsOf : Pair → ℕ → vector.Split → Type 0
 IsOf pair k x = (x.pair ≡ pair) × (x.k ≡ k)
@@ -116,11 +127,8 @@ IsOf pair k x = (x.pair ≡ pair) × (x.k ≡ k)
 abbrev pub IsMarkedAt : List ℕ → List Mark → Mark → ℕ → Type 0
 IsMarkedAt least marks mark p = (slice_index least p ≢ p) × (slice_index_or marks p Open ≡ mark)
 
-abbrev pub IsCountedAt : State → ℕ → Type 0
-IsCountedAt board m = mark_of board m ≡ Proved
-
 abbrev pub AreCountedBelow : ℕ → State → ℕ → Type 0
-AreCountedBelow places board p = (m : ℕ) → m < p → IsNeeded places board.classes m → mark_of board m ≡ Proved
+AreCountedBelow places board p = (m : ℕ) → m < p → IsNeeded places board.classes m → IsCountedAt board m
 
 -- the marks after an offer is given up
 abbrev pub reopened_marks : Option LastOffer → ℕ → List Mark → List Mark
@@ -136,5 +144,5 @@ Frees pair k board (Already bits) = HoldIn (places_of pair) board.classes bits �
 Frees pair k board (Offered p) = ⊥
 Frees pair k board Idle = ⊥
 Frees pair k board Done = ⊥
-Frees pair k board (Counted p) = ⊥
+Frees pair k board (Counted p w) = ⊥
 Frees pair k board (Split bits n) = ⊥

@@ -4,34 +4,42 @@ use Rattle.circ_model.specs.Meaning.{Pair, places_of}
 use Rattle.circ_model.specs.Correspondence.{MaySplit}
 use Rattle.class_partition.specs.declared.classes.Needed.{Needed}
 use Rattle.class_partition.specs.Classes.{Classes, ArePartition, IsNeeded, HoldIn, relative, IsSplit, class_count, KeepsGreatest, Passes}
+use Rattle.verdict_stamp.specs.Versions.{IsKnown}
+use Rattle.verdict_stamp.specs.declared.used.Used.{Used}
+use Rattle.verdict_stamp.specs.declared.used.Used.TheVariants as used
 use Rattle.refine_board.specs.declared.marks.Mark.TheVariants.{Open, Proved}
 use Rattle.refine_board.specs.declared.marks.LastOffer.{LastOffer}
 use Rattle.refine_board.specs.declared.journal.Step.{Step}
 use Rattle.refine_board.specs.declared.journal.Step.TheVariants.{Offered, Idle, Done, Counted, Stale, Split, Already, Foreign, Back}
 use Rattle.refine_board.specs.declared.journal.Entry.{Entry}
-use Rattle.refine_board.specs.States.{State, mark_of, offer_of, IsNeededPair, IsNextOpen, NoneOpen, SomeOut, AllCounted, called, offered, cleared, marked, released, divided}
+use Rattle.refine_board.specs.States.{State, mark_of, IsCountedAt, offer_of, IsNeededPair, IsNextOpen, NoneOpen, SomeOut, AllCounted, called, offered, cleared, marked, released, divided}
 
 -- what an entry of a party does
 abbrev pub Does : ℕ → ℕ → Step → State → State → Type 0
 Does places party (Offered p) before after = IsNextOpen places before p × (after ≡ called party (offered party p before))
 Does places party Idle before after = NoneOpen places before × SomeOut places before × (after ≡ called party before)
 Does places party Done before after = AllCounted places before × (after ≡ called party before)
-Does places party (Counted p) before after = IsNeededPair places before.classes p × (after ≡ called party (cleared party (marked p.member Proved before)))
+Does places party (Counted p w) before after = IsNeededPair places before.classes p × (after ≡ called party (cleared party (marked p.member (Proved w) before)))
 Does places party (Stale p) before after = after ≡ called party (released party before)
 Does places party (Back p) before after = after ≡ called party (released party before)
 Does places party Foreign before after = after ≡ called party (released party before)
 Does places party (Already bits) before after = HoldIn places before.classes bits × (after ≡ called party (released party before))
 Does places party (Split bits n) before after =
     (classes : Classes) × IsSplit places before.classes bits classes × (1 ≤ n) × (class_count places classes ≡ class_count places before.classes + n)
-    × (after ≡ called party (cleared party (divided places classes before)))
+    × (after ≡ called party (cleared party (divided classes before)))
 
 -- an entry of a party of the board, with its next call number
 abbrev pub IsStep : ℕ → Entry → State → State → Type 0
 IsStep places entry before after = (entry.worker < length before.calls) × (entry.call ≡ slice_index before.calls entry.worker) × Does places entry.worker entry.step before after
 
--- what stands behind an entry: a pair that passes, a row that may split
+-- what a counted pair rests on: that it passes under the classes, or that it is one of the greatest correspondence for no more frames
+abbrev pub RestsOn : Pair → ℕ → Classes → ℕ → Used → Type 0
+RestsOn pair k classes p used.Version = Passes pair k classes p
+RestsOn pair k classes p (used.Known j) = (0 < j) × (j ≤ k) × IsKnown pair j classes p
+
+-- what stands behind an entry: what a counted pair rests on, a row that may split
 abbrev pub IsAllowed : Pair → ℕ → State → Step → Type 0
-IsAllowed pair k board (Counted p) = Passes pair k board.classes p.member
+IsAllowed pair k board (Counted p w) = RestsOn pair k board.classes p.member w
 IsAllowed pair k board (Already bits) = MaySplit pair k bits
 IsAllowed pair k board (Split bits n) = MaySplit pair k bits
 IsAllowed pair k board (Offered p) = Unit {0}
@@ -55,7 +63,8 @@ pub record IsSupported (pair : Pair) (k : ℕ) (board : State) : Type 0 where
   pub partition : ArePartition (places_of pair) board.classes
   pub keeps : KeepsGreatest pair k board.classes
   pub marks : length board.marks ≡ places_of pair
-  pub counted : (p : ℕ) → IsNeeded (places_of pair) board.classes p → mark_of board p ≡ Proved → Passes pair k board.classes p
+  pub counted : (p : ℕ) → IsNeeded (places_of pair) board.classes p → IsCountedAt board p → Passes pair k board.classes p
+  pub rests : (p : ℕ) (w : Used) → IsNeeded (places_of pair) board.classes p → mark_of board p ≡ Proved w → RestsOn pair k board.classes p w
 
 abbrev pub HasOffer : State → ℕ → (LastOffer → Type 0) → Type 0
 HasOffer board party P = (offer : LastOffer) × (offer_of board party ≡ Some offer) × P offer
@@ -69,7 +78,7 @@ abbrev pub IsOrderly : State → ℕ → Step → Type 0
 IsOrderly board party (Offered p) = offer_of board party ≡ None
 IsOrderly board party Idle = offer_of board party ≡ None
 IsOrderly board party Done = offer_of board party ≡ None
-IsOrderly board party (Counted p) = HasOffer board party (λ o. o.pair ≡ p)
+IsOrderly board party (Counted p w) = HasOffer board party (λ o. o.pair ≡ p)
 IsOrderly board party (Stale p) = HasOffer board party (λ o. (o.pair ≡ p) × (o.number < board.number))
 IsOrderly board party (Back p) = HasOffer board party (λ o. o.pair ≡ p)
 IsOrderly board party Foreign = ⊥

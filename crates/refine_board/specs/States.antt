@@ -1,5 +1,5 @@
 -- A board of refinement as plain data, and the changes that its entries make.
-use Rattle.std.specs.Prelude.{◌≡◌, ◌==◌, ℕ, ◌+◌, ◌<◌, List, [], false, set, replicate, if◌then◌else◌, slice_index, slice_index_or, Option, Some, None}
+use Rattle.std.specs.Prelude.{◌≡◌, ◌==◌, ℕ, ◌+◌, ◌<◌, List, [], map, Bool, true, false, set, if◌then◌else◌, slice_index, slice_index_or, Option, Some, None}
 use Rattle.boxcar.specs.Table.{Shelves}
 use Rattle.circ_model.specs.Netlist.{Netlist}
 use Rattle.circ_model.specs.Meaning.{Pair}
@@ -8,6 +8,7 @@ use Rattle.class_partition.specs.Classes.{Classes, IsNeeded, least_of}
 use Rattle.refine_board.specs.declared.marks.Mark.{Mark}
 use Rattle.refine_board.specs.declared.marks.Mark.TheVariants.{Open, Out, Proved}
 use Rattle.refine_board.specs.declared.marks.LastOffer.{LastOffer}
+use Rattle.verdict_stamp.specs.declared.used.Used.TheVariants as used
 
 pub record State : Type 0 where
   pub classes : Classes
@@ -18,6 +19,26 @@ pub record State : Type 0 where
 
 abbrev pub mark_of : State → ℕ → Mark
 mark_of board p = slice_index_or board.marks p Open
+
+abbrev pub is_counted : Mark → Bool
+is_counted Open = false
+is_counted Out = false
+is_counted (Proved w) = true
+
+-- the place's pair is counted
+abbrev pub IsCountedAt : State → ℕ → Type 0
+IsCountedAt board p = is_counted (mark_of board p) ≡ true
+
+-- and counted as one of the greatest correspondence for some number of frames
+abbrev pub IsKnownAt : State → ℕ → Type 0
+IsKnownAt board p = (j : ℕ) × (mark_of board p ≡ Proved (used.Known j))
+
+-- what a split leaves of a mark: a known pair stays counted
+abbrev pub lasting : Mark → Mark
+lasting Open = Open
+lasting Out = Open
+lasting (Proved used.Version) = Open
+lasting (Proved (used.Known j)) = Proved (used.Known j)
 
 abbrev pub offer_of : State → ℕ → Option LastOffer
 offer_of board party = slice_index_or board.offers party None
@@ -40,7 +61,7 @@ abbrev pub SomeOut : ℕ → State → Type 0
 SomeOut places board = (m : ℕ) × IsNeeded places board.classes m × (mark_of board m ≡ Out)
 
 abbrev pub AllCounted : ℕ → State → Type 0
-AllCounted places board = (m : ℕ) → IsNeeded places board.classes m → mark_of board m ≡ Proved
+AllCounted places board = (m : ℕ) → IsNeeded places board.classes m → IsCountedAt board m
 
 -- the party has made a call more
 abbrev pub called : ℕ → State → State
@@ -63,8 +84,8 @@ reopened (Some offer) board = if offer.number == board.number then marked offer.
 abbrev pub released : ℕ → State → State
 released party board = cleared party (reopened (offer_of board party) board)
 
-abbrev pub divided : ℕ → Classes → State → State
-divided places classes board = record board { classes = classes; number = board.number + 1; marks = replicate places Open }
+abbrev pub divided : Classes → State → State
+divided classes board = record board { classes = classes; number = board.number + 1; marks = map lasting board.marks }
 
 -- what a brand names before a call picks its run
 abbrev pub no_net : Netlist

@@ -102,7 +102,8 @@ pub enum Take<'p, L: Run> {
 pub enum Kept {
     /// The pair is counted.
     Counted,
-    /// The verdict was found under other classes than the board's.
+    /// The verdict is of another pair of netlists or k; or it rests on other classes than the board's, or is known of a pair that
+    /// isn't needed.
     Stale,
 }
 

@@ -7,7 +7,7 @@ ghost use Rattle.circ_model.specs.Meaning.{places_of};
 ghost use Rattle.class_partition.specs.Classes.{AreOfGreatest};
 ghost use Rattle.refine_board.specs.States.{AllCounted, NoneOpen, SomeOut};
 ghost use Rattle.refine_board.specs.Schedules.{Leads, opened};
-ghost use Rattle.refine_board.specs.Running.{Appends, IsAbout, IsUnder, IsOf};
+ghost use Rattle.refine_board.specs.Running.{Appends, Counts, IsAbout, IsUnder, IsOf};
 ghost use Rattle.refine_board.specs.Answers.{taken, IsCurrentOffer, IsOwnOffer, HasOneStamp, kept_step, cut_step, stamp_after};
 ghost use Rattle.verdict_stamp.specs.Published.{IsStampOf};
 
@@ -123,8 +123,9 @@ impl<'v, 'p, L: Run> Board<'v, 'p, L> {
         Ok(Take::Done)
     }
 
-    /// Counts the offer's pair, where the verdict was found for the run's netlists and k under the board's classes. Else the
-    /// verdict is outdated. The stamp is that of the verdict's version. Where it is the board's own, nothing is compared.
+    /// Counts the offer's pair, where the verdict was found for the run's netlists and k: under the board's classes, or it rests on
+    /// what is known, and the pair is a needed one of the board's classes. Else the verdict is outdated. The stamp is that of the
+    /// verdict's version. Where it is the board's own, no classes are compared, nor are they for what is known.
     pub fn keep(
         &mut self,
         offer: Offer<'p, L>,
@@ -133,14 +134,14 @@ impl<'v, 'p, L: Run> Board<'v, 'p, L> {
     ) -> Kept
         requires about { IsAbout verdict.now offer.pair }
         requires stamp { IsStampOf L.list stamp.now verdict.now.version }
-        ensures step { Appends (places_of L.pair) self.old self.new offer.entry.party (kept_step result offer.entry.pair) }
+        ensures step { Appends (places_of L.pair) self.old self.new offer.entry.party (kept_step result offer.entry.pair verdict.now.used) }
         ensures current { self.new.current ≡ self.old.current }
-        ensures counted { result ≡ Kept.Counted → IsUnder L.pair L.k self.old.state.classes verdict.now.version }
-        ensures stale { result ≡ Kept.Stale → IsUnder L.pair L.k self.old.state.classes verdict.now.version → ⊥ }
+        ensures counted { result ≡ Kept.Counted → Counts L.pair L.k self.old.state.classes verdict.now }
+        ensures stale { result ≡ Kept.Stale → Counts L.pair L.k self.old.state.classes verdict.now → ⊥ }
     {
-        let current = self.stands_at(stamp, verdict.version());
+        let counts = self.counts(&offer, verdict, stamp);
         let (party, pair) = self.settle(offer.into_debt());
-        if current {
+        if counts {
             self.count(party, pair, verdict);
             return Kept::Counted;
         }
@@ -148,8 +149,8 @@ impl<'v, 'p, L: Run> Board<'v, 'p, L> {
         Kept::Stale
     }
 
-    /// Splits the classes by a vector that was found for the offer, where it is of the run's netlists and k. A split opens
-    /// each needed pair. Nothing splits the classes of the greatest correspondence.
+    /// Splits the classes by a vector that was found for the offer, where it is of the run's netlists and k. A split leaves the known
+    /// pairs counted, and opens each other needed pair. Nothing splits the classes of the greatest correspondence.
     pub fn split(&mut self, offer: Offer<'p, L>, vector: Vector<'_>) -> Cut
         ensures step { Appends (places_of L.pair) self.old self.new offer.entry.party (cut_step result vector.entry.bits) }
         ensures current { self.new.current ≡ stamp_after result self.old.current }

@@ -2,8 +2,8 @@
 ghost use Rattle.std.specs.Prelude.{◌≡◌, ◌≢◌, ◌<◌, ◌≤◌, ◌+◌, ◌^◌, ℕ, IfOk, None, true, false, length};
 ghost use Rattle.circ_model.specs.Meaning.{places_of};
 ghost use Rattle.class_partition.specs.Classes.{AreOfGreatest, IsNeeded, class_count, needed};
-ghost use Rattle.refine_board.specs.States.{AllCounted, IsNeededPair, offer_of};
-ghost use Rattle.refine_board.specs.Running.{AreCountedBelow, IsAbout, IsCountedAt, IsOf, IsUnder};
+ghost use Rattle.refine_board.specs.States.{AllCounted, IsCountedAt, IsNeededPair, offer_of};
+ghost use Rattle.refine_board.specs.Running.{AreCountedBelow, Counts, IsAbout, IsOf, IsUnder};
 ghost use Rattle.refine_board.specs.Closings.{Closes};
 ghost use Rattle.verdict_stamp.specs.Versions.{Separates};
 
@@ -25,7 +25,7 @@ fn count_pair<L: Run>(
     requires wanted { IsCountedAt board.old.state pair.member → ⊥ }
     requires below { AreCountedBelow (places_of L.pair) board.old.state pair.member }
     requires about { IsAbout verdict.now pair }
-    requires current { IsUnder L.pair L.k board.old.state.classes verdict.now.version }
+    requires counts { Counts L.pair L.k board.old.state.classes verdict.now }
     requires room { 2 ≤ board.old.room }
     requires few { length board.old.entries < 2 ^ 60 }
     ensures closes { Closes (places_of L.pair) party board.old board.new }

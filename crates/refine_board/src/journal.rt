@@ -5,6 +5,7 @@ use bit_rows::BitRow;
 use class_partition::Needed;
 use std::alloc::{AllocError, Global};
 use std::marker::Model;
+use verdict_stamp::Used;
 
 /// What a call came to.
 #[derive(Drop)]
@@ -15,8 +16,8 @@ pub enum Step {
     Idle,
     /// Each pair was counted.
     Done,
-    /// The pair was counted.
-    Counted(Needed),
+    /// The pair was counted, by this.
+    Counted(Needed, Used),
     /// The verdict was found under other classes.
     Stale(Needed),
     /// The classes were split by these bits, into so many more.

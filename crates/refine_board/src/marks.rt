@@ -1,12 +1,14 @@
 //! Marks by place, last offers by party, and the changes of them.
-ghost use Rattle.std.specs.Prelude.{◌≡◌, ◌≢◌, ◌<◌, ◌≤◌, ◌+◌, ◌^◌, ◌++◌, ◌∷◌, [], ℕ, length, set, slice_index, slice_index_or, replicate, Some, None, IfOk};
+ghost use Rattle.std.specs.Prelude.{◌≡◌, ◌≢◌, ◌<◌, ◌≤◌, ◌+◌, ◌^◌, ◌++◌, ◌∷◌, [], ℕ, length, map, set, slice_index, slice_index_or, replicate, Some, None, IfOk};
 ghost use Rattle.refine_board.specs.declared.marks.Mark.TheVariants.{Open};
 ghost use Rattle.refine_board.specs.declared.marks.LastOffer.{LastOffer};
+ghost use Rattle.refine_board.specs.States.{is_counted, lasting};
 ghost use Rattle.refine_board.specs.Running.{IsMarkedAt, reopened_marks};
 
 use crate::journal::{Entry, Journal, Step};
 use class_partition::{Classes, Needed};
 use std::alloc::{AllocError, Global};
+use verdict_stamp::Used;
 
 /// How far a needed pair is.
 #[derive(Clone, Copy, PartialEq, Eq)]
@@ -15,8 +17,30 @@ pub enum Mark {
     Open,
     /// It was given to a party.
     Out,
-    /// It is counted: it passes under the board's classes.
-    Proved,
+    /// It is counted: it passes under the board's classes, by this.
+    Proved(Used),
+}
+
+impl Mark {
+    /// Whether the pair is counted.
+    pub(crate) fn is_counted(self) -> bool
+        ensures { result ≡ is_counted self }
+    {
+        match self {
+            Mark::Proved(_) => true,
+            _ => false,
+        }
+    }
+
+    /// What a split of the classes leaves of it.
+    pub(crate) fn lasting(self) -> Mark
+        ensures { result ≡ lasting self }
+    {
+        match self {
+            Mark::Proved(Used::Known(k)) => Mark::Proved(Used::Known(k)),
+            _ => Mark::Open,
+        }
+    }
 }
 
 /// A party's last offer, and the board's number at that moment.
@@ -95,10 +119,13 @@ pub(crate) fn release(
     if member < cursor { member } else { cursor }
 }
 
-pub(crate) fn open_all(marks: &mut Vec<Mark>)
-    ensures { marks.new.items ≡ replicate (length marks.old.items) Open }
+// What a split leaves of all marks: the pairs that aren't known are open.
+pub(crate) fn reopen(marks: &mut Vec<Mark>)
+    ensures { marks.new.items ≡ map lasting marks.old.items }
 {
-    marks.fill(Mark::Open);
+    for i in 0..marks.len() {
+        marks[i] = marks[i].lasting();
+    }
 }
 
 pub(crate) fn open_marks(alloc: Global, places: u32) -> Result<Vec<Mark>, AllocError>

@@ -3,8 +3,8 @@ ghost use Rattle.std.specs.Prelude.{◌≡◌, ◌≢◌, ◌<◌, ◌≤◌, �
 ghost use Rattle.boxcar.specs.Table.{Shows};
 ghost use Rattle.circ_model.specs.Meaning.{places_of};
 ghost use Rattle.class_partition.specs.Classes.{AreOfGreatest, IsNeeded, class_count};
-ghost use Rattle.refine_board.specs.States.{IsNeededPair, IsOpen, NoneOpen, SomeOut, AllCounted};
-ghost use Rattle.refine_board.specs.Running.{Appends, AreCountedBelow, Frees, IsAbout, IsCountedAt, IsUnder, IsOf};
+ghost use Rattle.refine_board.specs.States.{IsCountedAt, IsNeededPair, IsOpen, NoneOpen, SomeOut, AllCounted};
+ghost use Rattle.refine_board.specs.Running.{Appends, AreCountedBelow, Counts, Frees, IsAbout, IsUnder, IsOf};
 ghost use Rattle.refine_board.specs.Closings.{IsClaimed};
 ghost use Rattle.refine_board.specs.Answers.{cut_step, stamp_after};
 ghost use Rattle.verdict_stamp.specs.Published.{IsStampOf};
@@ -12,12 +12,12 @@ ghost use Rattle.verdict_stamp.specs.Published.{IsStampOf};
 use crate::answers::{Cut, Debt, Offer};
 use crate::board::Board;
 use crate::journal::Step;
-use crate::marks::{LastOffer, Mark, first_marked, note, open_all, release};
+use crate::marks::{LastOffer, Mark, first_marked, note, release, reopen};
 use crate::run::Run;
 use class_partition::Needed;
 use std::alloc::AllocError;
 use std::sync::Wait;
-use verdict_stamp::{Stamp, Vector, Verdict, Version};
+use verdict_stamp::{Stamp, Used, Vector, Verdict, Version};
 
 impl<'v, 'p, L: Run> Board<'v, 'p, L> {
     // Makes room for an entry and its answer.
@@ -128,6 +128,60 @@ impl<'v, 'p, L: Run> Board<'v, 'p, L> {
             return true;
         }
         self.is_at(version)
+    }
+
+    // Whether a pair is a needed one of the board's classes.
+    pub(crate) fn needs(&self, pair: Needed) -> bool
+        requires { pair.rep ≢ pair.member }
+        ensures { IsTrue result ↔ IsNeededPair (places_of L.pair) self.now.state.classes pair }
+    {
+        let classes = self.version.classes();
+        if pair.member >= classes.len() {
+            return false;
+        }
+        classes.rep(pair.member) == pair.rep
+    }
+
+    // Whether a version of the run's list is of the run's netlists and k, as the version of an offer is. Where the two have one
+    // stamp, nothing is compared.
+    pub(crate) fn is_own(
+        &self,
+        offer: &Offer<'p, L>,
+        stamp: &Stamp<'p>,
+        version: &Version<'_>,
+    ) -> bool
+        requires stamp { IsStampOf L.list stamp.now version.now }
+        ensures { IsTrue result ↔ ((version.now.pair ≡ L.pair) × (version.now.k ≡ L.k)) }
+    {
+        if self.versions.same(offer.stamp(), stamp) {
+            return true;
+        }
+        if version.k() != self.version.k() {
+            return false;
+        }
+        version.product().same(self.version.product())
+    }
+
+    // Whether a verdict for an offer counts. Nothing is compared but indices and places where it rests on what is known.
+    pub(crate) fn counts(
+        &self,
+        offer: &Offer<'p, L>,
+        verdict: &Verdict<'_, '_>,
+        stamp: &Stamp<'p>,
+    ) -> bool
+        requires about { IsAbout verdict.now offer.now.pair }
+        requires stamp { IsStampOf L.list stamp.now verdict.now.version }
+        ensures { IsTrue result ↔ Counts L.pair L.k self.now.state.classes verdict.now }
+    {
+        match verdict.used() {
+            Used::Version => self.stands_at(stamp, verdict.version()),
+            Used::Known(_) => {
+                if !self.needs(offer.pair()) {
+                    return false;
+                }
+                self.is_own(offer, stamp, verdict.version())
+            }
+        }
     }
 
     // Gives the first open place to a party, which owes its answer.
@@ -256,16 +310,18 @@ impl<'v, 'p, L: Run> Board<'v, 'p, L> {
         note(calls, journal, party, step);
     }
 
-    // The pair is counted.
+    // The pair is counted, by what the verdict rests on.
     pub(crate) fn count(&mut self, party: u32, pair: Needed, verdict: &Verdict<'_, '_>)
         requires party { party < L.workers + 1 }
         requires about { IsAbout verdict.now pair }
-        requires current { IsUnder L.pair L.k self.old.state.classes verdict.now.version }
+        requires counts { Counts L.pair L.k self.old.state.classes verdict.now }
         requires room { 1 ≤ self.old.room }
-        ensures step { Appends (places_of L.pair) self.old self.new party (Step.Counted pair) }
+        ensures step { Appends (places_of L.pair) self.old self.new party (Step.Counted pair verdict.now.used) }
         ensures current { self.new.current ≡ self.old.current }
     {
-        let _passed = verdict.member();
+        let _own = self.version.product();
+        let _found = verdict.version().product();
+        let used = verdict.used();
         let Board {
             marks,
             calls,
@@ -273,12 +329,12 @@ impl<'v, 'p, L: Run> Board<'v, 'p, L> {
             journal,
             ..
         } = self;
-        marks[pair.member as usize] = Mark::Proved;
+        marks[pair.member as usize] = Mark::Proved(used);
         offers[party as usize] = None;
-        note(calls, journal, party, Step::Counted(pair));
+        note(calls, journal, party, Step::Counted(pair, used));
     }
 
-    // Splits the classes by a vector of the run, after which each needed pair is open; or it splits none.
+    // Splits the classes by a vector of the run, after which each needed pair is open that isn't known; or it splits none.
     pub(crate) fn cut(&mut self, party: u32, vector: Vector<'_>) -> Cut
         requires party { party < L.workers + 1 }
         requires own { IsOf L.pair L.k vector }
@@ -307,7 +363,7 @@ impl<'v, 'p, L: Run> Board<'v, 'p, L> {
         }
         *current = None;
         *cursor = 0;
-        open_all(marks);
+        reopen(marks);
         offers[party as usize] = None;
         note(calls, journal, party, Step::Split(bits, added));
         Cut::Split(added)
@@ -332,7 +388,7 @@ impl<'v, 'p, L: Run> Board<'v, 'p, L> {
         if self.version.classes().rep(member) == member {
             return false;
         }
-        self.marks[member as usize] != Mark::Proved
+        !self.marks[member as usize].is_counted()
     }
 
     // The party takes a pair that isn't counted, where it is open, to answer it at once.

@@ -4,3 +4,4 @@ pub mod Splitting
 pub mod SimSplitting
 pub mod OpenedFrames
 pub mod Rounds
+pub mod KnownPasses

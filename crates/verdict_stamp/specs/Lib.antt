@@ -3,3 +3,4 @@ pub mod Published
 pub mod Proofs
 pub mod Opening
 pub mod Known
+pub mod Laws

@@ -4,6 +4,7 @@
 #![tactic(auto)]
 
 mod known;
+mod laws;
 mod opening;
 mod prover;
 mod refine;
@@ -14,6 +15,7 @@ mod version;
 mod versions;
 
 pub use known::Known;
+pub use laws::known_passes;
 pub use prover::{Proof, Prover, ProverMemory};
 pub use refine::greatest_classes;
 pub use used::Used;

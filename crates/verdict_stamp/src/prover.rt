@@ -8,15 +8,14 @@ ghost use Rattle.frame_unroll.specs.Found.{IsFound};
 ghost use Rattle.verdict_stamp.specs.Versions.{IsOf, IsVersion, base_of, step_of, base_question, step_question, induction_of};
 ghost use Rattle.split_rows.specs.Rows.{AllBroken};
 ghost use Rattle.verdict_stamp.specs.Known.{IsBelow};
-ghost use Rattle.verdict_stamp.specs.Proofs.{IsApart, IsProof, IsSettled, IsSplitOf};
+ghost use Rattle.verdict_stamp.specs.Proofs.{IsApart, IsProof, IsSettled, IsSplitOf, IsToldBy};
 
 use crate::known::Known;
 use crate::vector::Vector;
-use crate::verdict::Verdict;
+use crate::verdict::{Verdict, literals_of};
 use crate::version::Version;
 use bit_rows::BitRow;
-use circ_model::Lit;
-use class_partition::{Classes, Needed};
+use class_partition::Needed;
 use frame_unroll::{Found, Prepared, Workspace};
 use pair_sweep::{FreeBit, Sweep, SweepMemory};
 use product_machine::Product;
@@ -100,22 +99,6 @@ impl<'v, 'p> Model for Prover<'v, 'p> {
     ghost invariant = { λ p. IsVersion p.current.now × (p.sweep ≡ induction_of p.current.now) × (p.rows ≡ extent_of p.current.now)
         × IfSome p.base (IsOf (base_of p.current.now))
         × IfSome p.step (IsOf (step_of p.current.now)) };
-}
-
-// The literals of a needed pair.
-fn literals_of(classes: &Classes, pair: Needed) -> (Lit, Lit)
-    requires place { pair.member < length classes.now.least }
-    requires rep { pair.rep ≡ least_of classes.now pair.member }
-    requires few { length classes.now.least < 2147483648 }
-    ensures { result ≡ needed classes.now pair.member }
-{
-    let _places = classes.len();
-    let sign = if classes.phase(pair.rep) {
-        !classes.phase(pair.member)
-    } else {
-        classes.phase(pair.member)
-    };
-    (Lit::of(pair.rep, false), Lit::of(pair.member, sign))
 }
 
 // Whether a run has the pair apart in one of its first k frames, asked over whole frames, which are made where they aren't yet.
@@ -426,7 +409,13 @@ impl<'v, 'p> Prover<'v, 'p> {
         requires known { IsBelow known.now self.old }
         ensures kept { self.new ≡ self.old }
         ensures settled { IfOk result (IsSettled self.old pair.member) }
+        ensures told { IfOk result (IsToldBy known.now self.old pair.member) }
     {
-        self.settle(alloc, pair)
+        let version = self.current;
+        let Some(verdict) = Verdict::known_own(version, pair, known) else {
+            return self.settle(alloc, pair);
+        };
+        self.sweep.take_passed(pair.member)?;
+        Ok(Proof::Holds(verdict))
     }
 }

@@ -1,10 +1,16 @@
 //! A verdict: that a needed pair passed under a version.
-ghost use Rattle.std.specs.Prelude.{◌≡◌};
+ghost use Rattle.std.specs.Prelude.{◌≡◌, ◌<◌, IfNone, IfSome, length};
+ghost use Rattle.circ_model.specs.Meaning.{places_of};
+ghost use Rattle.class_partition.specs.Classes.{IsNeeded, least_of, needed};
 ghost use Rattle.verdict_stamp.specs.declared.used.Used.TheVariants as rests_on;
+ghost use Rattle.verdict_stamp.specs.Known.{ArePaired, IsBelow, Tells, known_of};
 ghost use Rattle.verdict_stamp.specs.Versions.{IsPassed};
 
+use crate::known::Known;
 use crate::used::Used;
 use crate::version::Version;
+use circ_model::Lit;
+use class_partition::{Classes, Needed};
 use std::marker::Model;
 
 /// That a place passed with its class's least place, under this version of the classes: in the first k frames of every run,
@@ -26,6 +32,22 @@ impl<'v, 'p> Model for Verdict<'v, 'p> {
     ghost invariant = { λ v. IsPassed (record { version = v.version.now; member = v.place; used = v.rests }) };
 }
 
+// The literals of a needed pair.
+pub(crate) fn literals_of(classes: &Classes, pair: Needed) -> (Lit, Lit)
+    requires place { pair.member < length classes.now.least }
+    requires rep { pair.rep ≡ least_of classes.now pair.member }
+    requires few { length classes.now.least < 2147483648 }
+    ensures { result ≡ needed classes.now pair.member }
+{
+    let _places = classes.len();
+    let sign = if classes.phase(pair.rep) {
+        !classes.phase(pair.member)
+    } else {
+        classes.phase(pair.member)
+    };
+    (Lit::of(pair.rep, false), Lit::of(pair.member, sign))
+}
+
 impl<'v, 'p> Verdict<'v, 'p> {
     pub(crate) fn of(version: &'v Version<'p>, place: u32) -> Verdict<'v, 'p>
         requires passed { IsPassed (record { version = version.now; member = place; used = rests_on.Version }) }
@@ -36,6 +58,52 @@ impl<'v, 'p> Verdict<'v, 'p> {
             place,
             rests: Used::Version,
         }
+    }
+
+    /// That a needed pair of a version passes, where the known classes are of the same pair of netlists and no greater k, and
+    /// pair its two literals; else none. Nothing is asked of the solver.
+    pub fn known(
+        version: &'v Version<'p>,
+        pair: Needed,
+        known: &Known<'_>,
+    ) -> Option<Verdict<'v, 'p>>
+        requires needed { IsNeeded (places_of version.now.pair) version.now.classes pair.member }
+        requires rep { pair.rep ≡ least_of version.now.classes pair.member }
+        ensures none { IfNone result (Tells known.now version.now pair.member → ⊥) }
+        ensures some { IfSome result (λ w. Tells known.now version.now pair.member × (w ≡ known_of known.now version.entry.now pair.member)) }
+    {
+        if version.k() < known.k() {
+            return None;
+        }
+        if !known.product().same(version.product()) {
+            return None;
+        }
+        Verdict::known_own(version, pair, known)
+    }
+
+    /// The same for classes that are known to be of the version's pair of netlists, and of no greater k.
+    pub fn known_own(
+        version: &'v Version<'p>,
+        pair: Needed,
+        known: &Known<'_>,
+    ) -> Option<Verdict<'v, 'p>>
+        requires needed { IsNeeded (places_of version.now.pair) version.now.classes pair.member }
+        requires rep { pair.rep ≡ least_of version.now.classes pair.member }
+        requires below { IsBelow known.now version.now }
+        ensures none { IfNone result (ArePaired known.now version.now pair.member → ⊥) }
+        ensures some { IfSome result (λ w. ArePaired known.now version.now pair.member × (w ≡ known_of known.now version.entry.now pair.member)) }
+    {
+        let _places = version.product().len();
+        let (a, b) = literals_of(version.classes(), pair);
+        let _product = known.product();
+        if !known.classes().paired(a, b) {
+            return None;
+        }
+        Some(Verdict {
+            version,
+            place: pair.member,
+            rests: Used::Known(known.k()),
+        })
     }
 
     /// The version under which the pair passed.

@@ -1,12 +1,11 @@
-use Rattle.std.proofs.Common.{◌≡◌, ◌∙◌, ◌<◌, ◌+◌, ◌-◌, ℕ, List, Bool, length, replicate, arith, refl, sym, subst, ap}
+use Rattle.std.proofs.Common.{◌≡◌, ◌∙◌, ◌<◌, ◌+◌, ◌-◌, ℕ, List, Bool, length, map, arith, refl, sym, subst, ap}
 use Rattle.circ_model.specs.Meaning.{Pair, places_of}
 use Rattle.circ_model.specs.Correspondence.{MaySplit}
 use Rattle.class_partition.specs.Classes.{AreOfGreatest, HoldIn}
 use Rattle.verdict_stamp.specs.Versions.{Standing}
 use Rattle.verdict_stamp.specs.Versions as vector
-use Rattle.refine_board.specs.declared.marks.Mark.TheVariants.{Open}
 use Rattle.refine_board.specs.declared.journal.Step.TheVariants.{Already, Split}
-use Rattle.refine_board.specs.States.{State, called, cleared, released, divided}
+use Rattle.refine_board.specs.States.{State, called, cleared, lasting, released, divided}
 use Rattle.refine_board.specs.Running.{Running, IsRunning, IsOfRun, state_of, next_entry}
 use Rattle.refine_board.proofs.Runs.{running_after, held_after, released_is}
 use Rattle.refine_board.proofs.Splits.{unsplit}
@@ -62,8 +61,8 @@ invariant_of-self-2 g c =
     let may : MaySplit g.L.Run.pair g.L.Run.k bits = may_of_run g.L.Run.pair g.L.Run.k x bits bits_is c.requires.own c.into_bits-bits.ensures.may in
     let d : Divided places before.classes bits v.classes added = divided_is g.L.Run.pair v i.version x.bits bits added of.pair_is was.supported.partition bits_is c.split_by-added.ensures.split c.split_by-added.ensures.count (omega arith) in
     let number_is : v.number ≡ i.version.number + 1 = c.split_by-added.ensures.number (omega arith) in
-    let marks_is : c.open_all.new.marks.items ≡ replicate places Open = c.open_all.ensures ∙ ap (λ (n : ℕ). replicate n Open) was.supported.marks in
-    let after : State = called q (cleared q (divided places v.classes before)) in
+    let marks_is : c.reopen.new.marks.items ≡ map lasting i.marks.items = c.reopen.ensures in
+    let after : State = called q (cleared q (divided v.classes before)) in
     let is = running_after g.L.Run.pair g.L.Run.k g.L.Run.workers g.L.Run.opening before after i.journal.entries q (Split bits added) (inside, refl, (v.classes, d.split, d.some, d.count, refl)) may was in
     (rw (c.note-2.ensures.calls, c.note-2.ensures.entries, marks_is, number_is) is, record { pair_is = c.split_by-added.ensures.product ∙ of.pair_is; k_is = c.split_by-added.ensures.k ∙ of.k_is; first_pair = of.first_pair; first_k = of.first_k; opening_is = of.opening_is; list_is = of.list_is; current_is = tt }, rw (c.note-2.ensures.calls, c.note-2.ensures.entries, marks_is, number_is) (held_after places i.cursor 0 i.waiting i.owed.total i.journal.room c.note-2.new.journal.room g.L.Ledger.parts i.rest.parts before after i.journal.entries (next_entry before q (Split bits added)) held c.note-2.ensures.room (omega (arith, room, c.requires.room)) (λ m lt open_now. absurd (omega arith)) (omega arith)))
 
@@ -86,8 +85,8 @@ returns-clause-step g c =
     let may : MaySplit g.L.Run.pair g.L.Run.k bits = may_of_run g.L.Run.pair g.L.Run.k x bits bits_is c.requires.own c.into_bits-bits.ensures.may in
     let d : Divided places before.classes bits v.classes added = divided_is g.L.Run.pair v i.version x.bits bits added of.pair_is was.supported.partition bits_is c.split_by-added.ensures.split c.split_by-added.ensures.count (omega arith) in
     let number_is : v.number ≡ i.version.number + 1 = c.split_by-added.ensures.number (omega arith) in
-    let marks_is : c.open_all.new.marks.items ≡ replicate places Open = c.open_all.ensures ∙ ap (λ (n : ℕ). replicate n Open) was.supported.marks in
-    let after : State = called q (cleared q (divided places v.classes before)) in
+    let marks_is : c.reopen.new.marks.items ≡ map lasting i.marks.items = c.reopen.ensures in
+    let after : State = called q (cleared q (divided v.classes before)) in
     rw (← c.self.view_is, ← bits_is) ((inside, refl, (v.classes, d.split, d.some, d.count, rw (c.note-2.ensures.calls, marks_is, number_is) refl)), c.note-2.ensures.entries)
 
 pub returns-clause-stays : goal.returns-clause-stays
