@@ -312,7 +312,9 @@ pub(crate) fn check_beyond<'p, R: Threads + Wait + Sync, G: Gate>(
 {
     let _sound = product.cells();
     let Refined {
-        version, journal, ..
+        version,
+        journal,
+        ..
     } = refine_from(rt, alloc, product, c, &reached.known, gate)?;
     let answer = answer_by(
         alloc,

@@ -19,10 +19,7 @@ pub(crate) struct Lent<'v, 'p, L: Run> {
 }
 
 impl<'v, 'p, L: Run> Lent<'v, 'p, L> {
-    pub(crate) fn new(
-        versions: &'v Versions<'p>,
-        known: Option<&'v Known<'p>>,
-    ) -> Lent<'v, 'p, L>
+    pub(crate) fn new(versions: &'v Versions<'p>, known: Option<&'v Known<'p>>) -> Lent<'v, 'p, L>
         requires list { versions.now ≡ L.list }
         requires earlier { IfSome known (λ n. IsKnownFor L.pair L.k n.now) }
     {

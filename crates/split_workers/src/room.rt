@@ -27,10 +27,7 @@ pub(crate) struct Room<'v, 'p, L: Run, E: Ledger, O: Ledger> {
 }
 
 impl<'v, 'p, L: Run, E: Ledger, O: Ledger> Room<'v, 'p, L, E, O> {
-    pub(crate) fn new(
-        desk: Desk<'v, 'p, L, E, O>,
-        lent: Lent<'v, 'p, L>,
-    ) -> Room<'v, 'p, L, E, O> {
+    pub(crate) fn new(desk: Desk<'v, 'p, L, E, O>, lent: Lent<'v, 'p, L>) -> Room<'v, 'p, L, E, O> {
         Room {
             desk: Bell::new(desk),
             lent,
