@@ -6,7 +6,7 @@
 writes FOLDER/NAME.aig for ten designs of 1,400 to 51,600 gates from Verilog that stands here and in engine_pairs.py: some as they are, some
 with parts that stand more than once, as in lockstep or voted hardware. Then it prints a row for each: latches and gates as
 yosys wrote them; as `sec reduce` leaves them, with its seconds of processor; as `strash; scorr` leaves them, with its seconds; and as
-`sec reduce` and then `strash` leave them. Needs `yosys` and ABC as `berkeley-abc`. Unproved."""
+`sec reduce` and then `strash` leave them. A run ends after 100 seconds, shown as `-`. Needs `yosys` and ABC as `berkeley-abc`. Unproved."""
 import os
 import re
 import resource
@@ -102,7 +102,7 @@ def make(name, text, folder):
     return path
 
 
-def timed(words, limit=300, folder=None):
+def timed(words, limit=100, folder=None):
     before = resource.getrusage(resource.RUSAGE_CHILDREN)
     try:
         done = subprocess.run(words, capture_output=True, text=True, timeout=limit, check=False, cwd=folder)
