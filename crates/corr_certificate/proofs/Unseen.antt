@@ -1,13 +1,14 @@
 -- The questions of a correspondence's needed pairs have logs, and no path is seen that has such a pair apart.
 use Rattle.std.proofs.Common.{◌≡◌, ◌∙◌, ◌<◌, ◌-◌, ℕ, Bool, true, false, not, List, sym, subst, ap, arith, true≢false, refl}
+use Rattle.std.specs.Prelude.{Option, Some, IfSome}
 use Rattle.circ_model.specs.Meaning.{Pair, places_of, row_at, value_in}
 use Rattle.circ_model.specs.Correspondence.{HoldsIn}
 use Rattle.class_partition.specs.Classes.{Classes, HoldIn, IsStable, needed}
 use Rattle.frame_unroll.specs.declared.found.Seen.{Seen}
 use Rattle.frame_unroll.specs.declared.found.Found.{Found}
 use Rattle.frame_unroll.specs.declared.found.Found.TheVariants as found
-use Rattle.frame_unroll.specs.Found.{IsFound, IsSeen, asks}
-use Rattle.frame_unroll.specs.Unrolled.{Unrolling, from_reset, after_classes}
+use Rattle.frame_unroll.specs.Found.{IsFound, IsSeen, asks, asking}
+use Rattle.frame_unroll.specs.Unrolled.{Unrolling, from_reset, after_classes, formula_of}
 use Rattle.sat_log.specs.Derivations.{Line, IsAccepted}
 use Rattle.corr_certificate.specs.Parts.{base_formula, step_formula}
 use Rattle.frame_unroll.proofs.Members.{members_to}
@@ -56,3 +57,11 @@ no_base_path pair k classes p u r f s some stable lt eu er ef h = base_unseen pa
 pub no_step_path : (pair : Pair) (k : ℕ) (classes : Classes) (p : ℕ) (u : Unrolling) (r : ℕ × ℕ) (f : Found) (s : Seen) → IsStable pair k classes → p < places_of pair → u ≡ after_classes pair k classes → r ≡ needed classes p → f ≡ found.Path s
     → IsFound u (asks r.0 r.1 k k) f → ⊥
 no_step_path pair k classes p u r f s stable lt eu er ef h = step_unseen pair k classes p s stable lt (found_as u (after_classes pair k classes) r (needed classes p) k k f (found.Path s) eu er ef h)
+
+-- a log that is accepted over the frames and the literals that were asked for
+pub step_derived : (pair : Pair) (k : ℕ) (classes : Classes) (p : ℕ) (u : Unrolling) (r : ℕ × ℕ) (o : Option (List Line)) (log : List Line) → u ≡ after_classes pair k classes → r ≡ needed classes p → o ≡ Some log
+    → IfSome o (IsAccepted (formula_of (asking u (asks r.0 r.1 k k)))) → IsAccepted (step_formula pair k classes p) log
+step_derived pair k classes p u r o log eu er eo h =
+    subst (λ (x : ℕ × ℕ). IsAccepted (formula_of (asking (after_classes pair k classes) (asks x.0 x.1 k k))) log) er
+    (subst (λ (v : Unrolling). IsAccepted (formula_of (asking v (asks r.0 r.1 k k))) log) eu
+    (subst (λ (q : Option (List Line)). IfSome q (IsAccepted (formula_of (asking u (asks r.0 r.1 k k))))) eo h))

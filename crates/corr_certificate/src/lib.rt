@@ -7,6 +7,7 @@
 
 mod fault;
 mod laws;
+mod lemmas;
 mod reading;
 mod trimming;
 mod writing;

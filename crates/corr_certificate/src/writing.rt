@@ -1,11 +1,13 @@
 //! Writing a certificate: the classes, and for each needed pair the logs of its two questions, which are solved again. The
-//! frames are made once, and lent to each question; the logs are trimmed. This module alone uses the solver.
-ghost use Rattle.std.specs.Prelude.{◌≡◌, ◌<◌, ◌≤◌, ◌/◌, ◌-◌, ◌++◌, ◌∷◌, ℕ, List, IfOk, OnOk, None, codes, decimal, length};
+//! frames are made once, and lent to each question; the logs are trimmed. A log of the last frame is made of what lower places
+//! have derived, and checked; where it isn't accepted the question is asked on its own.
+ghost use Rattle.std.specs.Prelude.{◌≡◌, ◌<◌, ◌≤◌, ◌/◌, ◌-◌, ◌++◌, ◌∷◌, ℕ, List, IfOk, IfSome, OnOk, None, codes, decimal, length};
 ghost use Rattle.std.specs.List.{All};
+ghost use Rattle.circ_model.specs.Correspondence.{IsLiteral};
 ghost use Rattle.circ_model.specs.Meaning.{places_of};
 ghost use Rattle.class_partition.specs.Classes.{ArePartition, IsNeeded, IsStable, least_of, needed};
 ghost use Rattle.frame_unroll.specs.Found.{asks, asking};
-ghost use Rattle.frame_unroll.specs.Unrolled.{clauses_of, from_reset, after_classes};
+ghost use Rattle.frame_unroll.specs.Unrolled.{clauses_of, formula_of, from_reset, after_classes};
 ghost use Rattle.product_machine.specs.Signals.{signal_at};
 ghost use Rattle.sat_log.specs.Derivations.{IsAccepted, Line};
 ghost use Rattle.sat_log.specs.Lines.{AreLines};
@@ -16,12 +18,14 @@ ghost use Rattle.corr_certificate.specs.Parts.{base_formula, step_formula};
 ghost use Rattle.corr_certificate.specs.Trimming.{IsTrimmed};
 ghost use Rattle.corr_certificate.specs.Writing.{head_text, tie_text, AreFrames, AreProved, AddsMember, AddsMembers, IsCertificate};
 
+use crate::lemmas::Lemmas;
 use crate::trimming::trimmed;
 use circ_model::{Lit, Signal};
 use class_partition::Classes;
 use class_text::{push_class_lines, push_name};
 use frame_unroll::{Found, Prepared, Unrolled, Workspace};
 use itoa::Buffer;
+use log_check::check;
 use product_machine::Product;
 use sat_log::{Log, write_log};
 use std::alloc::{AllocError, Global};
@@ -84,11 +88,13 @@ struct Frames<'p> {
     step_clauses: u64,
 }
 
-// The memory in which their questions are asked.
+// The memory in which their questions are asked, what is derived in the last frame, and the frames that a log is checked over.
 #[derive(Drop)]
-struct Workspaces {
+struct Workspaces<'p> {
     base: Workspace,
     step: Workspace,
+    lemmas: Lemmas,
+    asked: Unrolled<'p>,
 }
 
 // How many clauses frames have with a question over some of them, whichever its literals are.
@@ -132,6 +138,28 @@ fn frames_of<'p>(
         step: Prepared::new(alloc, step)?,
         base_clauses,
         step_clauses,
+    })
+}
+
+// The memory for their questions.
+fn workspaces_of<'p>(
+    alloc: Global,
+    product: &'p Product,
+    k: u32,
+    classes: &Classes,
+) -> Result<Workspaces<'p>, AllocError>
+    requires few { k ≤ 16 }
+    requires places { length classes.now.least ≡ places_of product.now }
+    ensures { IfOk result (λ work. work.asked ≡ after_classes product.entry.now k classes.now) }
+{
+    let asked = Unrolled::step_frames(alloc, product, k, classes)?;
+    let base = k.saturating_mul(product.len());
+    let lemmas = Lemmas::new(alloc, asked.cnf(), product.len(), base)?;
+    Ok(Workspaces {
+        base: Workspace::new(),
+        step: Workspace::new(),
+        lemmas,
+        asked,
     })
 }
 
@@ -183,6 +211,80 @@ fn step_log(
     }
 }
 
+// A log that may be one of a question in frame t, where it is accepted.
+fn accepted_in(
+    alloc: Global,
+    frames: &mut Unrolled<'_>,
+    a: Lit,
+    b: Lit,
+    t: u32,
+    log: Option<Log>,
+) -> Result<Option<Log>, AllocError>
+    requires none { frames.old.asked ≡ None }
+    requires left { IsLiteral frames.old.pair a }
+    requires right { IsLiteral frames.old.pair b }
+    requires within { t < frames.old.frames }
+    ensures log { IfOk result (λ o. IfSome o (IsAccepted (formula_of (asking frames.old (asks a b t t))))) }
+    ensures frames { IfOk result (λ o. frames.new ≡ frames.old) }
+{
+    let Some(log) = log else {
+        return Ok(None);
+    };
+    frames.ask(alloc, a, b, t, t)?;
+    let good = check(alloc, frames.cnf(), &log)?;
+    frames.drop_question();
+    if good { Ok(Some(log)) } else { Ok(None) }
+}
+
+// The log by what lower places have derived, where it is accepted.
+fn derived_log(
+    alloc: Global,
+    work: &mut Workspaces<'_>,
+    product: &Product,
+    classes: &Classes,
+    place: u32,
+    a: Lit,
+    b: Lit,
+    t: u32,
+) -> Result<Option<Log>, AllocError>
+    requires none { work.old.asked.asked ≡ None }
+    requires left { IsLiteral work.old.asked.pair a }
+    requires right { IsLiteral work.old.asked.pair b }
+    requires within { t < work.old.asked.frames }
+    ensures log { IfOk result (λ o. IfSome o (IsAccepted (formula_of (asking work.old.asked (asks a b t t))))) }
+    ensures asked { IfOk result (λ o. work.new.asked ≡ work.old.asked) }
+{
+    work.lemmas.derive(alloc, product.cells(), classes, place)?;
+    let log = work.lemmas.log_of(alloc, classes, place)?;
+    accepted_in(alloc, &mut work.asked, a, b, t, log)
+}
+
+// The log of the last frame, by what lower places have derived or on its own.
+fn last_log(
+    alloc: Global,
+    work: &mut Workspaces<'_>,
+    product: &Product,
+    k: u32,
+    classes: &Classes,
+    frames: &Frames,
+    place: u32,
+) -> Result<Log, AllocError>
+    requires proved { AreProved product.now k classes.now }
+    requires frames { AreFrames product.now k classes.now frames.now.base frames.now.step frames.now.base_clauses frames.now.step_clauses }
+    requires asked { work.old.asked ≡ after_classes product.now k classes.now }
+    requires place { place < places_of product.now }
+    ensures accepted { IfOk result (IsAccepted (step_formula product.now k classes.now place)) }
+    ensures trimmed { IfOk result (IsTrimmed (length (step_formula product.now k classes.now place).clauses)) }
+    ensures asked { IfOk result (λ log. work.new.asked ≡ work.old.asked) }
+{
+    let _places = product.len();
+    let (a, b) = literals_of(classes, place);
+    match derived_log(alloc, work, product, classes, place, a, b, k)? {
+        Some(log) => trimmed(alloc, frames.step_clauses, &log),
+        None => step_log(alloc, &mut work.step, product, k, classes, frames, place),
+    }
+}
+
 // Adds a line with a name after a keyword, and a log.
 fn push_part(
     keyword: &[u8],
@@ -204,7 +306,7 @@ fn push_part(
 // Adds the two parts of a place.
 fn push_member(
     alloc: Global,
-    work: &mut Workspaces,
+    work: &mut Workspaces<'_>,
     product: &Product,
     k: u32,
     classes: &Classes,
@@ -214,15 +316,17 @@ fn push_member(
 ) -> Result<(), AllocError>
     requires proved { AreProved product.now k classes.now }
     requires frames { AreFrames product.now k classes.now frames.now.base frames.now.step frames.now.base_clauses frames.now.step_clauses }
+    requires asked { work.old.asked ≡ after_classes product.now k classes.now }
     requires place { place < places_of product.now }
-    ensures { OnOk result (AddsMember product.now k classes.now place text.old.items text.new.items) }
+    ensures added { OnOk result (AddsMember product.now k classes.now place text.old.items text.new.items) }
+    ensures asked { OnOk result (work.new.asked ≡ work.old.asked) }
 {
     let signal = product.signal(place);
     let base = base_log(alloc, &mut work.base, product, k, classes, frames, place)?;
     let pushed = push_part(b"base ", signal, &base, text);
     drop(base);
     pushed?;
-    let step = step_log(alloc, &mut work.step, product, k, classes, frames, place)?;
+    let step = last_log(alloc, work, product, k, classes, frames, place)?;
     let pushed = push_part(b"step ", signal, &step, text);
     drop(step);
     pushed
@@ -231,7 +335,7 @@ fn push_member(
 // Adds the parts of all places that aren't the least of their class, and the end.
 fn push_members(
     alloc: Global,
-    work: &mut Workspaces,
+    work: &mut Workspaces<'_>,
     product: &Product,
     k: u32,
     classes: &Classes,
@@ -240,6 +344,7 @@ fn push_members(
 ) -> Result<(), AllocError>
     requires proved { AreProved product.now k classes.now }
     requires frames { AreFrames product.now k classes.now frames.now.base frames.now.step frames.now.base_clauses frames.now.step_clauses }
+    requires asked { work.old.asked ≡ after_classes product.now k classes.now }
     ensures { OnOk result (AddsMembers product.now k classes.now text.old.items text.new.items) }
 {
     for place in 0..product.len() {
@@ -281,10 +386,7 @@ fn push_parts(
 {
     let _places = classes.len();
     let frames = frames_of(alloc, product, k, classes)?;
-    let mut work = Workspaces {
-        base: Workspace::new(),
-        step: Workspace::new(),
-    };
+    let mut work = workspaces_of(alloc, product, k, classes)?;
     let pushed = push_members(alloc, &mut work, product, k, classes, &frames, text);
     drop(work);
     drop(frames);

@@ -1,0 +1,574 @@
+//! Derivations that rest on what was derived before. That a place and its class's least are equal in a frame is derived in two
+//! cases, over the frame's clauses and over what lower places have derived: each line of a refutation gets the literals of the case
+//! that it rests on. The log of a place is then made of the lines that it reaches. (Sweeping: Kuehlmann and Krohm, DAC 1997; its
+//! derivations: Chatterjee, Mishchenko, Brayton and Kuehlmann, DAC 2007.)
+//!
+//! A log that is handed on is no more than likely: it is checked where it is used, so no contract says more here than that each
+//! call is safe and returns.
+
+ghost use Rattle.std.specs.Prelude.{◌≡◌, ◌<◌, ◌≤◌, length};
+ghost use Rattle.std.specs.List.{All};
+ghost use Rattle.cnf_store.specs.Clauses.{IsLiteral, AreLiterals};
+ghost use Rattle.log_check.specs.FirstBad.{Decides};
+
+use crate::trimming::trimmed;
+use circ_model::Lit;
+use class_partition::Classes;
+use cnf_store::Cnf;
+use product_machine::Cell;
+use sat_core::{Answer, Ready, Workspace};
+use sat_log::Log;
+use std::alloc::{AllocError, Global};
+use std::marker::Model;
+
+// Whether a literal is of so many variables.
+fn is_within(lit: i32, vars: u32) -> bool
+    ensures { Decides result (IsLiteral vars lit) }
+{
+    lit != 0 && lit.unsigned_abs() <= vars
+}
+
+// Whether all literals are.
+fn are_within(literals: &[i32], vars: u32) -> bool
+    ensures { Decides result (AreLiterals vars literals.now) }
+{
+    for lit in literals {
+        if !is_within(*lit, vars) {
+            return false;
+        }
+    }
+    true
+}
+
+// Whether a hint is the number of a clause.
+fn is_number(hint: u64) -> bool
+    ensures { Decides result (0 < hint) }
+{
+    hint != 0
+}
+
+// Whether all hints are.
+fn are_numbers(hints: &[u64]) -> bool
+    ensures { Decides result (All (λ h. 0 < h) hints.now) }
+{
+    for hint in hints {
+        if !is_number(*hint) {
+            return false;
+        }
+    }
+    true
+}
+
+// A formula without clauses.
+fn no_clauses(alloc: Global, vars: u32) -> Result<Cnf, AllocError> {
+    if vars <= 2147483647 {
+        Cnf::new(alloc, vars)
+    } else {
+        Cnf::new(alloc, 2147483647)
+    }
+}
+
+// Adds a clause.
+fn add_clause(own: &mut Cnf, literals: &[i32]) -> Result<(), AllocError>
+    ensures { own.new.vars ≡ own.old.vars }
+{
+    if are_within(literals, own.vars()) {
+        own.add(literals)?;
+    }
+    Ok(())
+}
+
+// Adds a line.
+fn add_line(log: &mut Log, literals: &[i32], hints: &[u64]) -> Result<(), AllocError> {
+    if are_within(literals, 2147483647) && are_numbers(hints) {
+        log.add(literals, hints)?;
+    }
+    Ok(())
+}
+
+// Sets a mark.
+fn set_mark(marks: &mut [bool], i: u64) {
+    if i < marks.len() as u64 {
+        marks[i as usize] = true;
+    }
+}
+
+// Whether a mark is set.
+fn is_set(marks: &[bool], i: u64) -> bool {
+    i < marks.len() as u64 && marks[i as usize]
+}
+
+// The number at a place, or 0.
+fn number_at(numbers: &[u64], i: u64) -> u64 {
+    if i < numbers.len() as u64 {
+        numbers[i as usize]
+    } else {
+        0
+    }
+}
+
+/// A solver over the clauses of frames.
+#[derive(Drop)]
+struct Refuter {
+    vars: u32,
+    ready: Ready,
+    work: Workspace,
+}
+
+impl Model for Refuter {
+    ghost use Rattle.std.specs.Prelude.{◌≡◌, ℕ};
+
+    ghost Value = { ℕ };
+
+    ghost view = { λ r. r.vars };
+
+    ghost invariant = { λ r. r.ready.vars ≡ r.vars };
+}
+
+impl Refuter {
+    fn new(alloc: Global, frames: &Cnf) -> Result<Refuter, AllocError> {
+        Ok(Refuter {
+            vars: frames.vars(),
+            ready: Ready::new(alloc, frames)?,
+            work: Workspace::new(),
+        })
+    }
+
+    // A refutation of the frames' clauses with these.
+    fn refute(&mut self, alloc: Global, own: &Cnf) -> Result<Option<Log>, AllocError> {
+        if own.vars() != self.vars {
+            return Ok(None);
+        }
+        match self.ready.solve_in(alloc, &mut self.work, own)? {
+            Answer::Unsat(log) => Ok(Some(log)),
+            Answer::Sat(_) => Ok(None),
+        }
+    }
+}
+
+/// The places that two places come down to in their frame, and they themselves.
+#[derive(Drop)]
+struct Cone {
+    // by place: the turn in which it was met
+    met: Vec<u32>,
+    turn: u32,
+    stack: Vec<u32>,
+    places: Vec<u32>,
+}
+
+impl Cone {
+    fn new(alloc: Global, places: u32) -> Result<Cone, AllocError> {
+        Ok(Cone {
+            met: vec![in alloc; 0; places as usize]?,
+            turn: 0,
+            stack: Vec::new(alloc),
+            places: Vec::new(alloc),
+        })
+    }
+
+    // Forgets what was met.
+    fn clear(&mut self) {
+        self.stack.clear();
+        self.places.clear();
+        self.turn = self.turn.wrapping_add(1);
+        if self.turn == 0 {
+            self.met.fill(0);
+            self.turn = 1;
+        }
+    }
+
+    // Meets a place.
+    fn meet(&mut self, place: u32) -> Result<(), AllocError> {
+        let row = place as usize;
+        if row < self.met.len() && self.met[row] != self.turn {
+            self.met[row] = self.turn;
+            self.stack.push(place)?;
+            self.places.push(place)?;
+        }
+        Ok(())
+    }
+
+    // Meets what stands below those that were met.
+    fn descend(&mut self, cells: &[Cell]) -> Result<(), AllocError> {
+        for _ in 0..cells.len() {
+            let Some(place) = self.stack.pop() else {
+                return Ok(());
+            };
+            if (place as usize) < cells.len() {
+                self.meet_below(cells[place as usize])?;
+            }
+        }
+        Ok(())
+    }
+
+    fn meet_below(&mut self, cell: Cell) -> Result<(), AllocError> {
+        match cell {
+            Cell::Product(left, right) => {
+                self.meet(left.var())?;
+                self.meet(right.var())
+            }
+            _ => Ok(()),
+        }
+    }
+}
+
+// The numbers of the lines that derive a place's two clauses, from 1 on, or 0 for none: that not the least place of its class
+// alone holds, and that not the place alone does.
+#[derive(Clone, Copy)]
+struct Derived {
+    least: u64,
+    place: u64,
+}
+
+// On which of a case's two literals a line rests.
+#[derive(Clone, Copy)]
+struct Rests {
+    first: bool,
+    second: bool,
+}
+
+// A case: that two literals hold. The clauses beside those of the frames are the two, and then those of earlier lines.
+#[derive(Drop)]
+struct Case {
+    first: i32,
+    second: i32,
+    own: Cnf,
+    lines: Vec<u64>,
+}
+
+/// What is derived in a frame.
+#[derive(Drop)]
+pub struct Lemmas {
+    given: u64,
+    base: u32,
+    refuter: Refuter,
+    log: Log,
+    // by place
+    derived: Vec<Derived>,
+    cone: Cone,
+    literals: Vec<i32>,
+    hints: Vec<u64>,
+}
+
+impl Lemmas {
+    /// Nothing is derived yet. The frames' clauses are given, and the variables of the frame's places begin past `base`.
+    pub fn new(alloc: Global, frames: &Cnf, places: u32, base: u32) -> Result<Lemmas, AllocError> {
+        let none = Derived { least: 0, place: 0 };
+        Ok(Lemmas {
+            given: frames.len(),
+            base,
+            refuter: Refuter::new(alloc, frames)?,
+            log: Log::new(alloc),
+            derived: vec![in alloc; none; places as usize]?,
+            cone: Cone::new(alloc, places)?,
+            literals: Vec::new(alloc),
+            hints: Vec::new(alloc),
+        })
+    }
+
+    // A literal of the pair in the frame.
+    fn literal(&self, var: u32, complement: bool) -> i32 {
+        let number = self.base.saturating_add(var).saturating_add(1);
+        let literal = i32::try_from(number).unwrap_or(0);
+        if complement {
+            literal.wrapping_neg()
+        } else {
+            literal
+        }
+    }
+
+    // The literals of the least place of a place's class, and of the place at their relative phase.
+    fn literals_of(&self, classes: &Classes, place: u32) -> (i32, i32) {
+        if place >= classes.len() {
+            return (0, 0);
+        }
+        let rep = classes.rep(place);
+        if rep >= classes.len() {
+            return (0, 0);
+        }
+        let sign = classes.phase(rep) != classes.phase(place);
+        (self.literal(rep, false), self.literal(place, sign))
+    }
+
+    fn derived_at(&self, place: u32) -> Derived {
+        if (place as usize) < self.derived.len() {
+            self.derived[place as usize]
+        } else {
+            Derived { least: 0, place: 0 }
+        }
+    }
+
+    /// Derives that a place and the least of its class are equal, by what is derived of the places below them.
+    pub fn derive(
+        &mut self,
+        alloc: Global,
+        cells: &[Cell],
+        classes: &Classes,
+        place: u32,
+    ) -> Result<(), AllocError> {
+        if place >= classes.len() {
+            return Ok(());
+        }
+        self.cone.clear();
+        self.cone.meet(place)?;
+        self.cone.meet(classes.rep(place))?;
+        self.cone.descend(cells)?;
+        let (x, y) = self.literals_of(classes, place);
+        let least = self.derive_case(alloc, classes, place, x, y.wrapping_neg())?;
+        let other = self.derive_case(alloc, classes, place, x.wrapping_neg(), y)?;
+        if (place as usize) < self.derived.len() {
+            self.derived[place as usize] = Derived {
+                least,
+                place: other,
+            };
+        }
+        Ok(())
+    }
+
+    // Derives that not both of two literals hold, and answers the number of the line, or 0.
+    fn derive_case(
+        &mut self,
+        alloc: Global,
+        classes: &Classes,
+        place: u32,
+        first: i32,
+        second: i32,
+    ) -> Result<u64, AllocError> {
+        let mut case = Case {
+            first,
+            second,
+            own: no_clauses(alloc, self.refuter.vars)?,
+            lines: Vec::new(alloc),
+        };
+        let derived = self.derive_in(alloc, classes, place, &mut case);
+        drop(case);
+        derived
+    }
+
+    fn derive_in(
+        &mut self,
+        alloc: Global,
+        classes: &Classes,
+        place: u32,
+        case: &mut Case,
+    ) -> Result<u64, AllocError> {
+        add_clause(&mut case.own, &[case.first])?;
+        add_clause(&mut case.own, &[case.second])?;
+        self.add_known(classes, place, case)?;
+        match self.refuter.refute(alloc, &case.own)? {
+            None => Ok(0),
+            Some(log) => {
+                let kept = trimmed(alloc, self.given.saturating_add(case.own.len()), &log)?;
+                self.take(alloc, case, &kept)?;
+                Ok(self.log.len())
+            }
+        }
+    }
+
+    // Adds what is derived of the places of the cone.
+    fn add_known(&self, classes: &Classes, place: u32, case: &mut Case) -> Result<(), AllocError> {
+        for q in &self.cone.places {
+            let known = self.derived_at(*q);
+            if *q != place && known.least != 0 && known.place != 0 {
+                let (x, y) = self.literals_of(classes, *q);
+                add_clause(&mut case.own, &[x.wrapping_neg(), y])?;
+                case.lines.push(known.least)?;
+                add_clause(&mut case.own, &[x, y.wrapping_neg()])?;
+                case.lines.push(known.place)?;
+            }
+        }
+        Ok(())
+    }
+
+    // Takes over the lines of a case's refutation.
+    fn take(&mut self, alloc: Global, case: &Case, kept: &Log) -> Result<(), AllocError> {
+        let start = self.log.len();
+        let mut rests = Vec::new(alloc);
+        for i in 0..kept.len() {
+            let mut on = self.take_hints(case, start, kept.hints(i), &rests)?;
+            if i + 1 == kept.len() {
+                on = Rests {
+                    first: true,
+                    second: true,
+                };
+            }
+            rests.push(on)?;
+            self.take_literals(case, kept.clause(i), on)?;
+            add_line(&mut self.log, &self.literals, &self.hints)?;
+        }
+        Ok(())
+    }
+
+    // The literals of a line, with those of the case that it rests on.
+    fn take_literals(&mut self, case: &Case, clause: &[i32], on: Rests) -> Result<(), AllocError> {
+        self.literals.clear();
+        self.literals.extend_from_slice(clause)?;
+        if on.first {
+            self.literals.push(case.first.wrapping_neg())?;
+        }
+        if on.second {
+            self.literals.push(case.second.wrapping_neg())?;
+        }
+        Ok(())
+    }
+
+    // The hints of a line as they are taken over, where the case's lines begin past `start`. Answers what the line rests on.
+    fn take_hints(
+        &mut self,
+        case: &Case,
+        start: u64,
+        hints: &[u64],
+        rests: &[Rests],
+    ) -> Result<Rests, AllocError> {
+        let mut on = Rests {
+            first: false,
+            second: false,
+        };
+        self.hints.clear();
+        for hint in hints {
+            on = self.take_hint(case, start, *hint, rests, on)?;
+        }
+        Ok(on)
+    }
+
+    fn take_hint(
+        &mut self,
+        case: &Case,
+        start: u64,
+        hint: u64,
+        rests: &[Rests],
+        on: Rests,
+    ) -> Result<Rests, AllocError> {
+        if hint <= self.given {
+            self.hints.push(hint)?;
+            return Ok(on);
+        }
+        let past = hint - self.given;
+        if past == 1 {
+            return Ok(Rests { first: true, ..on });
+        }
+        if past == 2 {
+            return Ok(Rests { second: true, ..on });
+        }
+        let own = case.own.len();
+        if past <= own {
+            let line = number_at(&case.lines, past - 3);
+            self.hints.push(self.given.saturating_add(line))?;
+            return Ok(on);
+        }
+        let row = past - own;
+        self.hints
+            .push(self.given.saturating_add(start).saturating_add(row))?;
+        Ok(with(on, rests, row - 1))
+    }
+
+    // The lines up to one that these two reach.
+    fn reached(&self, alloc: Global, last: u64, known: Derived) -> Result<Vec<bool>, AllocError>
+        requires { last ≤ length self.now.log }
+    {
+        let mut marks = vec![in alloc; false; last as usize]?;
+        set_mark(&mut marks, known.least.saturating_sub(1));
+        set_mark(&mut marks, known.place.saturating_sub(1));
+        for n in 0..last {
+            self.mark_from(&mut marks, last - 1 - n);
+        }
+        Ok(marks)
+    }
+
+    // Marks the lines that a line hints, if it is marked.
+    fn mark_from(&self, marks: &mut [bool], i: u64)
+        requires { i < length self.now.log }
+    {
+        if is_set(marks, i) {
+            for hint in self.log.hints(i) {
+                if *hint > self.given {
+                    set_mark(marks, *hint - self.given - 1);
+                }
+            }
+        }
+    }
+
+    /// The log of a place over the frames' clauses and its question's, of three clauses: that one of the frame's two places holds,
+    /// where a variable does, that not both do, and that the variable holds. None where nothing is derived of it.
+    pub fn log_of(
+        &self,
+        alloc: Global,
+        classes: &Classes,
+        place: u32,
+    ) -> Result<Option<Log>, AllocError> {
+        let known = self.derived_at(place);
+        let last = if known.least < known.place {
+            known.place
+        } else {
+            known.least
+        };
+        if known.least == 0 || known.place == 0 || last > self.log.len() {
+            return Ok(None);
+        }
+        let marks = self.reached(alloc, last, known)?;
+        let (x, _) = self.literals_of(classes, place);
+        Ok(Some(self.collect(alloc, &marks, last, known, x)?))
+    }
+
+    // The lines that are marked, and two that end the log.
+    fn collect(
+        &self,
+        alloc: Global,
+        marks: &[bool],
+        last: u64,
+        known: Derived,
+        x: i32,
+    ) -> Result<Log, AllocError>
+        requires { last ≤ length self.now.log }
+    {
+        let question = self.given.saturating_add(3);
+        let mut log = Log::new(alloc);
+        let mut numbers = Vec::new(alloc);
+        let mut hints = Vec::new(alloc);
+        for i in 0..last {
+            numbers.push(question.saturating_add(log.len()).saturating_add(1))?;
+            if is_set(marks, i) {
+                self.renumber(self.log.hints(i), &numbers, &mut hints)?;
+                add_line(&mut log, self.log.clause(i), &hints)?;
+            }
+        }
+        let least = number_at(&numbers, known.least.saturating_sub(1));
+        let other = number_at(&numbers, known.place.saturating_sub(1));
+        let holds = question.saturating_add(log.len()).saturating_add(1);
+        let one = self.given.saturating_add(1);
+        let both = self.given.saturating_add(2);
+        add_line(&mut log, &[x], &[question, other, one])?;
+        add_line(&mut log, &[], &[question, holds, least, both])?;
+        Ok(log)
+    }
+
+    // The hints with their new numbers, in place of what the buffer had.
+    fn renumber(
+        &self,
+        old: &[u64],
+        numbers: &[u64],
+        hints: &mut Vec<u64>,
+    ) -> Result<(), AllocError> {
+        hints.clear();
+        for hint in old {
+            if *hint <= self.given {
+                hints.push(*hint)?;
+            } else {
+                hints.push(number_at(numbers, *hint - self.given - 1))?;
+            }
+        }
+        Ok(())
+    }
+}
+
+// The same with what a line rests on.
+fn with(on: Rests, rests: &[Rests], row: u64) -> Rests {
+    if row >= rests.len() as u64 {
+        return on;
+    }
+    let below = rests[row as usize];
+    Rests {
+        first: on.first || below.first,
+        second: on.second || below.second,
+    }
+}
