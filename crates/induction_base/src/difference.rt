@@ -37,40 +37,47 @@ pub fn least_difference(
     requires few { k ≤ 64 }
     ensures { IfOk result (IsLeastOrNone product.now k) }
 {
-    search(alloc, product, None, k)
+    search(alloc, product, None, 0, k)
 }
 
 /// The same where it is known of outputs that classes pair that they agree in every frame of every run, as those of a signal
-/// correspondence do: only the others are asked for.
+/// correspondence do, and of all outputs that they agree in the frames before one: only the others are asked for, from that
+/// frame on.
 pub fn least_difference_beyond(
     alloc: Global,
     product: &Product,
     classes: &Classes,
+    from: u32,
     k: u32,
 ) -> Result<Option<Diff>, AllocError>
     requires some { 0 < k }
     requires few { k ≤ 64 }
     requires hold { HoldOutputs product.now classes.now }
+    requires agree { AgreeBelow product.now from }
     ensures { IfOk result (IsLeastOrNone product.now k) }
 {
-    search(alloc, product, Some(classes), k)
+    search(alloc, product, Some(classes), from, k)
 }
 
-// The least difference, on a graph of its own.
+// The least difference from a frame on, on a graph of its own.
 fn search(
     alloc: Global,
     product: &Product,
     held: Option<&Classes>,
+    from: u32,
     k: u32,
 ) -> Result<Option<Diff>, AllocError>
     requires few { k ≤ 64 }
+    requires agree { AgreeBelow product.now from }
     requires held { IfSome held (λ c. HoldOutputs product.now c.now) }
     ensures { IfOk result (IsLeastOrNone product.now k) }
 {
     let mut graph = Graph::new(alloc, 1023)?;
     let mut asker = Asker::new(alloc)?;
     let mut whole = WholeFrames::new(product);
-    let found = in_frames(alloc, product, held, &mut graph, &mut asker, &mut whole, k);
+    let found = in_frames(
+        alloc, product, held, &mut graph, &mut asker, &mut whole, from, k,
+    );
     drop(whole);
     drop(asker);
     drop(graph);
@@ -160,7 +167,7 @@ fn in_frame(
     Ok(None)
 }
 
-// The least difference below k, frame by frame.
+// The least difference below k, frame by frame. In the frames before `from` all outputs agree, so nothing is asked there.
 fn in_frames(
     alloc: Global,
     product: &Product,
@@ -168,9 +175,11 @@ fn in_frames(
     graph: &mut Graph,
     asker: &mut Asker,
     whole: &mut WholeFrames<'_>,
+    from: u32,
     k: u32,
 ) -> Result<Option<Diff>, AllocError>
     requires few { k ≤ 64 }
+    requires agree { AgreeBelow product.now from }
     requires whole { whole.old ≡ product.now }
     requires held { IfSome held (λ c. HoldOutputs product.now c.now) }
     ensures { IfOk result (IsLeastOrNone product.now k) }
@@ -179,6 +188,9 @@ fn in_frames(
     map.map_reset(graph, 0)?;
     for t in 0..k {
         map.next_reset(graph)?;
+        if t < from {
+            continue;
+        }
         if let Some(found) = in_frame(alloc, product, held, &map, graph, asker, whole, t)? {
             return Ok(Some(found));
         }

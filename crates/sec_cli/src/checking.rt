@@ -97,7 +97,7 @@ fn deeper_difference(
     if c.depth == 1 {
         return Ok(None);
     }
-    least_difference_beyond(alloc, product, classes, c.depth)
+    least_difference_beyond(alloc, product, classes, 1, c.depth)
 }
 
 // The answer by the classes of the greatest correspondence, where no run differs in the first frame. Where the classes pair all
