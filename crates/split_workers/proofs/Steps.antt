@@ -12,6 +12,7 @@ use Rattle.refine_board.specs.declared.answers.Kept.TheVariants as kept_as
 use Rattle.refine_board.specs.declared.answers.Cut.{Cut}
 use Rattle.refine_board.specs.declared.answers.Cut.TheVariants as cut_as
 use Rattle.refine_board.specs.Answers.{kept_step, cut_step}
+use Rattle.verdict_stamp.specs.declared.used.Used.{Used}
 use Rattle.refine_board.specs.Tallies.{is_offered}
 use Rattle.verdict_stamp.specs.Versions.{Standing}
 use Rattle.refine_board.specs.States.{State}
@@ -28,7 +29,7 @@ pub still_lawful : (a b : Bool) (event : Step) → (a ≡ true → b ≡ true) �
 still_lawful a b (step.Offered p) up ok = ok
 still_lawful a b step.Idle up ok = ok
 still_lawful a b step.Done up ok = ok
-still_lawful a b (step.Counted p) up ok = ok
+still_lawful a b (step.Counted p w) up ok = ok
 still_lawful a b (step.Stale p) up ok = ok
 still_lawful a b (step.Split bits n) up ok = ok
 still_lawful a b (step.Already bits) up ok = ok
@@ -111,18 +112,18 @@ desk_same pair k workers before after a b t end_parts owed_parts was state entri
   owed_parts_are = was.owed_parts_are;
 }
 
-pub kept_stays : (places : ℕ) (before after : Running) (party : ℕ) (r : Kept) (p : Needed) → Appends places before after party (kept_step r p) → after.state.classes ≡ before.state.classes
-kept_stays places before after party kept_as.Counted p adds = makes places party (step.Counted p) before.state after.state adds.0.2
-kept_stays places before after party kept_as.Stale p adds = makes places party (step.Stale p) before.state after.state adds.0.2
+pub kept_stays : (places : ℕ) (before after : Running) (party : ℕ) (r : Kept) (p : Needed) (w : Used) → Appends places before after party (kept_step r p w) → after.state.classes ≡ before.state.classes
+kept_stays places before after party kept_as.Counted p w adds = makes places party (step.Counted p w) before.state after.state adds.0.2
+kept_stays places before after party kept_as.Stale p w adds = makes places party (step.Stale p) before.state after.state adds.0.2
 
-pub kept_lawful : (b : Bool) (r : Kept) (p : Needed) → IsLawful b (kept_step r p)
-kept_lawful b kept_as.Counted p = tt
-kept_lawful b kept_as.Stale p = tt
+pub kept_lawful : (b : Bool) (r : Kept) (p : Needed) (w : Used) → IsLawful b (kept_step r p w)
+kept_lawful b kept_as.Counted p w = tt
+kept_lawful b kept_as.Stale p w = tt
 
 -- each answer is one, and neither an offer nor an end
-pub kept_is : (r : Kept) (p : Needed) → (is_done (kept_step r p) ≡ false) × (is_answer (kept_step r p) ≡ true) × (is_offered (kept_step r p) ≡ false)
-kept_is kept_as.Counted p = (refl, refl, refl)
-kept_is kept_as.Stale p = (refl, refl, refl)
+pub kept_is : (r : Kept) (p : Needed) (w : Used) → (is_done (kept_step r p w) ≡ false) × (is_answer (kept_step r p w) ≡ true) × (is_offered (kept_step r p w) ≡ false)
+kept_is kept_as.Counted p w = (refl, refl, refl)
+kept_is kept_as.Stale p w = (refl, refl, refl)
 
 pub cut_lawful : (b : Bool) (r : Cut) (bits : List Bool) → (r ≡ cut_as.Foreign → ⊥) → IsLawful b (cut_step r bits)
 cut_lawful b (cut_as.Split n) bits own = tt

@@ -1,7 +1,8 @@
 -- What a run of workers comes to.
-use Rattle.std.specs.Prelude.{◌≡◌, ℕ, List}
+use Rattle.std.specs.Prelude.{◌≡◌, ℕ, ◌≤◌, List}
 use Rattle.circ_model.specs.Meaning.{Pair}
 use Rattle.verdict_stamp.specs.Versions.{Standing, IsVersion}
+use Rattle.verdict_stamp.specs.Known.{Refined}
 use Rattle.verdict_stamp.specs.Opening.{AreOpened, AreFramesThatAdd}
 use Rattle.refine_board.specs.declared.journal.Entry.{Entry}
 use Rattle.refine_board.specs.Schedules.{opened}
@@ -20,3 +21,7 @@ pub record IsRefined (pair : Pair) (k workers : ℕ) (version : Standing) (entri
   pub first : Standing
   pub opening : IsOpening pair k first
   pub outcome : IsOutcome pair k workers (opened pair workers first.classes first.number) version entries
+
+-- known classes of the pair, for as many frames or fewer
+abbrev pub IsKnownFor : Pair → ℕ → Refined → Type 0
+IsKnownFor pair k n = (n.pair ≡ pair) × (n.k ≤ k)

@@ -13,7 +13,7 @@ is_idle Idle = true
 is_idle e = false
 
 abbrev pub is_counted : Step → Bool
-is_counted (Counted p) = true
+is_counted (Counted p w) = true
 is_counted e = false
 
 abbrev pub is_stale : Step → Bool

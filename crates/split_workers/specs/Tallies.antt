@@ -29,7 +29,7 @@ abbrev pub is_answer : Step → Bool
 is_answer (Offered p) = false
 is_answer Idle = false
 is_answer Done = false
-is_answer (Counted p) = true
+is_answer (Counted p w) = true
 is_answer (Stale p) = true
 is_answer (Split bits n) = true
 is_answer (Already bits) = true

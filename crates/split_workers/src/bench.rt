@@ -1,15 +1,16 @@
 //! What a worker proves pairs with: the frames of a published version. They are made anew where the worker is given a pair of
 //! another version; that they fit an offer is seen from two indices.
-ghost use Rattle.std.specs.Prelude.{◌≡◌, IfOk};
+ghost use Rattle.std.specs.Prelude.{◌≡◌, IfOk, IfSome};
 ghost use Rattle.circ_model.specs.Meaning.{places_of};
 ghost use Rattle.class_partition.specs.Classes.{IsNeeded, least_of};
 ghost use Rattle.boxcar.specs.Table.{Shows};
 ghost use Rattle.verdict_stamp.specs.Proofs.{IsSettled};
+ghost use Rattle.split_workers.specs.Refined.{IsKnownFor};
 
 use class_partition::Needed;
 use std::alloc::{AllocError, Global};
 use std::marker::Model;
-use verdict_stamp::{Proof, Prover, Stamp, Version, Versions};
+use verdict_stamp::{Known, Proof, Prover, Stamp, Version, Versions};
 
 /// The frames of a version, and its stamp.
 #[derive(Drop)]
@@ -87,17 +88,22 @@ impl<'v, 'p> Bench<'v, 'p> {
         self.prover.version()
     }
 
-    /// Settles a pair of its version.
+    /// Settles a pair of its version: unasked, where the classes of an earlier k are known and pair it.
     pub(crate) fn settle(
         &mut self,
         alloc: Global,
         pair: Needed,
+        known: Option<&Known<'_>>,
     ) -> Result<Proof<'v, 'p>, AllocError>
         requires needed { IsNeeded (places_of self.old.value.pair) self.old.value.classes pair.member }
         requires rep { pair.rep ≡ least_of self.old.value.classes pair.member }
+        requires earlier { IfSome known (λ n. IsKnownFor self.old.value.pair self.old.value.k n.now) }
         ensures kept { self.new ≡ self.old }
         ensures settled { IfOk result (IsSettled self.old.value pair.member) }
     {
-        self.prover.settle(alloc, pair)
+        match known {
+            Some(known) => self.prover.settle_known(alloc, pair, known),
+            None => self.prover.settle(alloc, pair),
+        }
     }
 }

@@ -5,6 +5,7 @@
 mod bench;
 mod desk;
 mod found;
+mod lent;
 mod report;
 mod room;
 mod running;
@@ -14,4 +15,4 @@ mod tests;
 mod worker;
 
 pub use report::{WorkReport, reports_of};
-pub use running::{Refined, refine};
+pub use running::{Refined, refine, refine_known};

@@ -49,7 +49,7 @@ fn with_step(report: WorkReport, step: &Step) -> WorkReport
             done: report.done + 1,
             ..report
         },
-        Step::Counted(_) => WorkReport {
+        Step::Counted(_, _) => WorkReport {
             counted: report.counted + 1,
             ..report
         },

@@ -9,6 +9,7 @@ ghost use Rattle.split_workers.specs.Desks.{IsAskedOf, IsOutcome};
 use crate::bench::Bench;
 use crate::desk::{Asked, Desk};
 use crate::found::Found;
+use crate::lent::Lent;
 use crate::seat::Seat;
 use bell::Bell;
 use refine_board::{Journal, Offer, Run};
@@ -16,27 +17,20 @@ use sec_base::Gate;
 use std::marker::Model;
 use std::sync::Wait;
 use std::sync::ledger::Ledger;
-use verdict_stamp::{Verdict, Version, Versions};
+use verdict_stamp::{Verdict, Version};
 
-/// The desk behind its lock, with the bell that wakes those who wait for work, and the published versions, which are read
-/// without the lock.
+/// The desk behind its lock, with the bell that wakes those who wait for work, and what is read without the lock.
 #[derive(Drop)]
 pub(crate) struct Room<'v, 'p, L: Run, E: Ledger, O: Ledger> {
     desk: Bell<Desk<'v, 'p, L, E, O>>,
-    versions: &'v Versions<'p>,
-    ghost list: { versions.now ≡ L.list },
+    lent: Lent<'v, 'p, L>,
 }
 
 impl<'v, 'p, L: Run, E: Ledger, O: Ledger> Room<'v, 'p, L, E, O> {
-    pub(crate) fn new(
-        desk: Desk<'v, 'p, L, E, O>,
-        versions: &'v Versions<'p>,
-    ) -> Room<'v, 'p, L, E, O>
-        requires list { versions.now ≡ L.list }
-    {
+    pub(crate) fn new(desk: Desk<'v, 'p, L, E, O>, lent: Lent<'v, 'p, L>) -> Room<'v, 'p, L, E, O> {
         Room {
             desk: Bell::new(desk),
-            versions,
+            lent,
         }
     }
 
@@ -126,11 +120,9 @@ impl<'r, 'v, 'p, L: Run, E: Ledger, O: Ledger, G: Gate> Caller<'r, 'v, 'p, L, E,
         seat
     }
 
-    /// The published versions.
-    pub(crate) fn versions(&self) -> &'v Versions<'p>
-        ensures { result.now ≡ L.list }
-    {
-        self.room.versions
+    /// What the room lends.
+    pub(crate) fn lent(&self) -> &'r Lent<'v, 'p, L> {
+        &self.room.lent
     }
 
     /// Tells the gate that a proof begins.

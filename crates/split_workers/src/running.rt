@@ -1,12 +1,14 @@
 //! A run of several workers, from the opening to the classes of the greatest correspondence.
 ghost use Rattle.std.specs.Prelude.{◌≡◌, ◌<◌, ◌≤◌, ◌*◌, ◌^◌, IfOk, IfSome};
 ghost use Rattle.refine_board.specs.Schedules.{opened};
+ghost use Rattle.split_workers.specs.Refined.{IsKnownFor};
 ghost use Rattle.split_workers.specs.Seats.{HasEnded};
 ghost use Rattle.split_workers.specs.Desks.{IsOutcome};
 ghost use Rattle.split_workers.specs.Refined.{IsRefined};
 ghost use Rattle.split_workers.specs.Reports.{AreReports};
 
 use crate::desk::Desk;
+use crate::lent::Lent;
 use crate::report::{WorkReport, reports_of};
 use crate::room::Room;
 use crate::seat::{Seat, seats};
@@ -20,7 +22,7 @@ use std::sync::Wait;
 use std::sync::ledger::{Blank, Ledger};
 use std::thread;
 use std::thread::Threads;
-use verdict_stamp::{Version, Versions};
+use verdict_stamp::{Known, Version, Versions};
 
 /// What a run comes to.
 #[derive(Drop)]
@@ -42,7 +44,16 @@ pub(crate) struct Blanks {
     pub(crate) owed: Blank,
 }
 
-// The same under the names of a run and of the ledgers of its workers.
+// What a run begins with: the list that it publishes its versions in, its first version, and the classes of an earlier k where
+// they are known.
+#[derive(Drop)]
+struct Beginning<'v, 'p> {
+    versions: &'v Versions<'p>,
+    first: Version<'p>,
+    known: Option<&'v Known<'p>>,
+}
+
+// A run under the names of the run and of the ledgers of its workers.
 fn refine_named<
     'p,
     L: Run + Send + Sync,
@@ -54,8 +65,7 @@ fn refine_named<
     rt: &R,
     alloc: Global,
     blanks: Blanks,
-    versions: &Versions<'p>,
-    first: Version<'p>,
+    beginning: Beginning<'_, 'p>,
     workers: u32,
     gate: &G,
 ) -> Result<Refined<'p>, AllocError>
@@ -65,20 +75,27 @@ fn refine_named<
     requires ends_parts { (blanks.ends.parts ≡ E.parts) × (E.parts ≡ workers) }
     requires owed_name { blanks.owed.name ≡ O.name }
     requires owed_parts { (blanks.owed.parts ≡ O.parts) × (O.parts ≡ workers * 2) }
-    requires product { first.pair ≡ L.pair }
-    requires k { first.k ≡ L.k }
+    requires product { beginning.first.pair ≡ L.pair }
+    requires k { beginning.first.k ≡ L.k }
     requires workers { workers ≡ L.workers }
     requires some { (0 < workers) × (workers ≤ 64) }
-    requires opening { L.opening ≡ opened L.pair L.workers first.classes first.number }
-    requires list { L.list ≡ versions.now }
+    requires opening { L.opening ≡ opened L.pair L.workers beginning.first.classes beginning.first.number }
+    requires list { L.list ≡ beginning.versions.now }
+    requires earlier { IfSome beginning.known (λ n. IsKnownFor L.pair L.k n.now) }
     ensures outcome { IfOk result (λ r. IsOutcome L.pair L.k L.workers L.opening r.version r.journal.entries) }
     ensures reports { IfOk result (λ r. AreReports workers r.journal.entries r.reports.items) }
 {
+    let Beginning {
+        versions,
+        first,
+        known,
+    } = beginning;
     let places = first.classes().len();
     let Blanks { offers, ends, owed } = blanks;
     let (ledgers, seats) = seats::<E, O>(alloc, ends, owed, workers)?;
     let board = Board::open(alloc, offers, versions, first, workers)?;
-    let room = Room::<L, E, O>::new(Desk::new(board, ledgers), versions);
+    let lent = Lent::new(versions, known);
+    let room = Room::<L, E, O>::new(Desk::new(board, ledgers), lent);
     let shared = &room;
     let told = thread::map_vec(
         rt,
@@ -100,6 +117,43 @@ fn refine_named<
     })
 }
 
+// A run, with the classes of an earlier k where they are known.
+fn refine_with<'p, R: Threads + Wait + Sync, G: Gate>(
+    rt: &R,
+    alloc: Global,
+    product: &'p Product,
+    k: u32,
+    workers: u32,
+    gate: &G,
+    known: Option<&Known<'p>>,
+) -> Result<Refined<'p>, AllocError>
+    requires some { 0 < k }
+    requires few { k ≤ 16 }
+    requires workers { (0 < workers) × (workers ≤ 64) }
+    requires earlier { IfSome known (λ n. IsKnownFor product.now k n.now) }
+    ensures refined { IfOk result (λ r. IsRefined product.entry.now k workers r.version r.journal.entries) }
+    ensures reports { IfOk result (λ r. AreReports workers r.journal.entries r.reports.items) }
+{
+    let first = Version::opening(alloc, product, k)?;
+    let versions = Versions::new(alloc)?;
+    refine_named::<Brand, Brand, Brand, R, G>(
+        rt,
+        alloc,
+        Blanks {
+            offers: Blank::new(1 << 62),
+            ends: Blank::new(workers as u64),
+            owed: Blank::new(workers as u64 * 2),
+        },
+        Beginning {
+            versions: &versions,
+            first,
+            known,
+        },
+        workers,
+        gate,
+    )
+}
+
 /// The classes of the greatest correspondence for induction over k frames, by so many workers, and the journal of their run.
 /// The run opens on the version that simulation leaves. A worker that finds no work waits for the others' answers; where no
 /// thread can be made the caller does its work. An `Err` is want of memory: then every worker has ended.
@@ -117,19 +171,27 @@ pub fn refine<'p, R: Threads + Wait + Sync, G: Gate>(
     ensures refined { IfOk result (λ r. IsRefined product.entry.now k workers r.version r.journal.entries) }
     ensures reports { IfOk result (λ r. AreReports workers r.journal.entries r.reports.items) }
 {
-    let first = Version::opening(alloc, product, k)?;
-    let versions = Versions::new(alloc)?;
-    refine_named::<Brand, Brand, Brand, R, G>(
-        rt,
-        alloc,
-        Blanks {
-            offers: Blank::new(1 << 62),
-            ends: Blank::new(workers as u64),
-            owed: Blank::new(workers as u64 * 2),
-        },
-        &versions,
-        first,
-        workers,
-        gate,
-    )
+    refine_with(rt, alloc, product, k, workers, gate, None)
+}
+
+/// The same where the classes of the greatest correspondence for induction over fewer frames, or as many, are known. Each pair of
+/// these passes for k too, so the workers ask no question about it.
+pub fn refine_known<'p, R: Threads + Wait + Sync, G: Gate>(
+    rt: &R,
+    alloc: Global,
+    product: &'p Product,
+    k: u32,
+    workers: u32,
+    gate: &G,
+    known: &Known<'p>,
+) -> Result<Refined<'p>, AllocError>
+    requires some { 0 < k }
+    requires few { k ≤ 16 }
+    requires workers { (0 < workers) × (workers ≤ 64) }
+    requires pair { known.now.pair ≡ product.now }
+    requires earlier { known.now.k ≤ k }
+    ensures refined { IfOk result (λ r. IsRefined product.entry.now k workers r.version r.journal.entries) }
+    ensures reports { IfOk result (λ r. AreReports workers r.journal.entries r.reports.items) }
+{
+    refine_with(rt, alloc, product, k, workers, gate, Some(known))
 }

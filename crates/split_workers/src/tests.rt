@@ -5,6 +5,7 @@ ghost use Rattle.refine_board.specs.Schedules.{opened};
 ghost use Rattle.split_workers.specs.Seats.{AreSeats};
 
 use crate::desk::{Asked, Desk};
+use crate::lent::Lent;
 use crate::room::{Caller, Room};
 use crate::running::Blanks;
 use crate::seat::{Seat, seats};
@@ -169,7 +170,7 @@ fn run_that_stops<
     let Blanks { offers, ends, owed } = blanks;
     let (ledgers, seats) = seats::<E, O>(alloc, ends, owed, 2)?;
     let board = Board::open(alloc, offers, versions, first, 2)?;
-    let room = Room::<L, E, O>::new(Desk::new(board, ledgers), versions);
+    let room = Room::<L, E, O>::new(Desk::new(board, ledgers), Lent::new(versions, None));
     both_go(rt, alloc, &room, gate, seats, places)
 }
 

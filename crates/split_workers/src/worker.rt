@@ -9,6 +9,7 @@ ghost use Rattle.split_workers.specs.Workers.{IsAtWork, IsFoundFor, IsTold, lade
 use crate::bench::Bench;
 use crate::desk::Asked;
 use crate::found::Found;
+use crate::lent::Lent;
 use crate::room::{Caller, Room};
 use crate::seat::Seat;
 use refine_board::{Offer, Run};
@@ -17,7 +18,10 @@ use std::alloc::{AllocError, Global};
 use std::marker::Model;
 use std::sync::Wait;
 use std::sync::ledger::Ledger;
-use verdict_stamp::{Proof, Stamp, Versions};
+use verdict_stamp::{Proof, Stamp};
+
+// So many vectors a worker holds at most. Each splits the classes for all, so one that holds many lets others prove pairs in vain.
+const MOST: u64 = 400;
 
 /// A worker, with its bench, and the offers that it holds: pairs that it found apart, each with a vector.
 #[derive(Drop)]
@@ -45,19 +49,18 @@ impl<'r, 'v, 'p, L: Run, E: Ledger, O: Ledger, G: Gate> Model for Worker<'r, 'v,
 // The bench of a version: the one that the worker has, turned to it, or a new one.
 fn bench_for<'v, 'p, L: Run>(
     alloc: Global,
-    versions: &'v Versions<'p>,
+    lent: &Lent<'v, 'p, L>,
     old: Option<Bench<'v, 'p>>,
     stamp: &Stamp<'p>,
 ) -> Result<Bench<'v, 'p>, AllocError>
-    requires list { versions.now ≡ L.list }
     requires old { IfSome old (IsBenchOf L.list L.pair L.k) }
     requires listed { IsBenchOf L.list L.pair L.k stamp.now }
     ensures listed { IfOk result (λ b. Shows L.list b) }
     ensures version { IfOk result (λ b. b.value ≡ stamp.now.value) }
 {
     match old {
-        Some(bench) => bench.turned_to(alloc, versions, stamp),
-        None => Bench::new(alloc, versions, stamp),
+        Some(bench) => bench.turned_to(alloc, lent.versions, stamp),
+        None => Bench::new(alloc, lent.versions, stamp),
     }
 }
 
@@ -65,6 +68,7 @@ fn bench_for<'v, 'p, L: Run>(
 #[tactic(auto, using(crate::proofs::Finds::found_by))]
 fn find_at<'v, 'p, L: Run>(
     alloc: Global,
+    lent: &Lent<'v, 'p, L>,
     bench: &mut Bench<'v, 'p>,
     offer: &Offer<'p, L>,
 ) -> Result<Proof<'v, 'p>, AllocError>
@@ -73,26 +77,25 @@ fn find_at<'v, 'p, L: Run>(
     ensures found { IfOk result (IsFoundFor L.pair L.k offer.now) }
 {
     let _owed = offer.stamp();
-    bench.settle(alloc, offer.pair())
+    bench.settle(alloc, offer.pair(), lent.known)
 }
 
 // The same at the bench that the worker has, turned to that version, or a new one. Then the pocket has room for one more.
 fn find<'v, 'p, L: Run>(
     alloc: Global,
-    versions: &'v Versions<'p>,
+    lent: &Lent<'v, 'p, L>,
     bench: &mut Option<Bench<'v, 'p>>,
     pocket: &mut Vec<Found<'p, L>>,
     offer: &Offer<'p, L>,
 ) -> Result<Proof<'v, 'p>, AllocError>
-    requires list { versions.now ≡ L.list }
     requires bench { IfSome bench.old (IsBenchOf L.list L.pair L.k) }
     ensures bench { IfSome bench.new (IsBenchOf L.list L.pair L.k) }
     ensures pocket { pocket.new.items ≡ pocket.old.items }
     ensures room { IfOk result (λ _. length pocket.old.items < vec_capacity pocket.new) }
     ensures found { IfOk result (IsFoundFor L.pair L.k offer.now) }
 {
-    let mut at = bench_for::<L>(alloc, versions, bench.take(), offer.stamp())?;
-    let found = find_at(alloc, &mut at, offer);
+    let mut at = bench_for(alloc, lent, bench.take(), offer.stamp())?;
+    let found = find_at(alloc, lent, &mut at, offer);
     *bench = Some(at);
     let found = found?;
     pocket.reserve(1)?;
@@ -100,7 +103,7 @@ fn find<'v, 'p, L: Run>(
 }
 
 impl<'r, 'v, 'p, L: Run, E: Ledger, O: Ledger, G: Gate> Worker<'r, 'v, 'p, L, E, O, G> {
-    // A worker that holds nothing. Its vectors have so many places each, and it holds a quarter of a gigabyte of them.
+    // A worker that holds nothing. Its vectors have so many places each, and it holds a quarter of a gigabyte of them at most.
     fn new(
         alloc: Global,
         desk: Caller<'r, 'v, 'p, L, E, O, G>,
@@ -113,7 +116,7 @@ impl<'r, 'v, 'p, L: Run, E: Ledger, O: Ledger, G: Gate> Worker<'r, 'v, 'p, L, E,
             desk,
             bench: None,
             pocket: Vec::new(alloc),
-            most: ((1u64 << 31) / (places as u64 + 1)) as usize,
+            most: MOST.min((1u64 << 31) / (places as u64 + 1)) as usize,
         }
     }
 
@@ -161,7 +164,7 @@ impl<'r, 'v, 'p, L: Run, E: Ledger, O: Ledger, G: Gate> Worker<'r, 'v, 'p, L, E,
             ..
         } = self;
         desk.works();
-        match find(*alloc, desk.versions(), bench, pocket, &offer) {
+        match find(*alloc, desk.lent(), bench, pocket, &offer) {
             Ok(Proof::Holds(verdict)) => {
                 desk.keep(rt, offer, &verdict);
                 Ok(())
