@@ -1,14 +1,18 @@
 -- A climb from one depth of the induction to the next.
-use Rattle.std.proofs.Common.{◌≡◌, ◌≢◌, ◌<◌, ◌≤◌, ◌+◌, ◌==◌, ◌∙◌, ℕ, Bool, true, false, not, List, Option, None, Some, is_some, IsTrue, IsSomeAnd, MatchBool, refl, ap, sym, subst, arith, eqb-true}
+use Rattle.std.proofs.Common.{◌≡◌, ◌≢◌, ◌<◌, ◌≤◌, ◌+◌, ◌==◌, ◌∙◌, ℕ, Bool, true, false, not, List, Option, None, Some, is_some, IfSome, IsTrue, IsSomeAnd, MatchBool, refl, ap, sym, subst, arith, eqb-true}
 use Rattle.std.proofs.lemmas.Bool.{ne_eqb}
 use Rattle.circ_model.specs.Meaning.{Pair}
-use Rattle.circ_model.specs.Verdict.{Verdict, Equivalent, Different, Undecided}
+use Rattle.circ_model.specs.Verdict.{AgreeBelow, Verdict, Equivalent, Different, Undecided}
+use Rattle.verdict_stamp.specs.Known.{Refined}
+use Rattle.verdict_stamp.specs.Versions.{Standing}
+use Rattle.split_workers.specs.Refined.{IsKnownFor}
 use Rattle.refine_board.specs.Running.{Written}
 use Rattle.command_line.specs.Asked.{CheckAsked, ClimbAsked, ForClimb}
+use Rattle.sec_cli.specs.declared.checking.Reached.{Reached}
 use Rattle.sec_cli.specs.declared.ending.Answer.{Answer}
 use Rattle.run_texts.specs.Verdicts.{status_of_verdict}
 use Rattle.sec_cli.specs.Answers.{IsCheckAnswer, IsJournalOf, IsRefinedText, IsVerdictText, IsVerdictAnswer, is_refined}
-use Rattle.sec_cli.specs.Climbs.{IsOpen, IsLastTried, IsJournalBefore, IsClimbAnswer, check_of_climb}
+use Rattle.sec_cli.specs.Climbs.{IsOpen, IsLastTried, IsJournalBefore, IsClimbAnswer, IsReached, check_of_climb}
 use Rattle.sec_cli.specs.Endings.{HasJournal}
 
 -- nothing was decided below this depth, and this is the journal of the refinement before it
@@ -80,6 +84,12 @@ ends pair c k before a b so end (v, is, status, text) same_status same_text same
         not_one : a.status ≡ 1 → (a.status == 1) ≡ false → ⊥
         not_one h e = let bad : true ≡ false = sym (ap (λ (s : ℕ). s == 1) h) ∙ e in cc
 
+-- an answer that ends the climb with the first depth
+pub ends_at_once : (pair : Pair) (c : ClimbAsked) (check : CheckAsked) (a b : Answer) → 0 < c.most → check ≡ check_of_climb c 1 → a.status ≡ 1 → IsCheckAnswer pair check a
+    → b.status ≡ a.status → b.text.items ≡ a.text.items → b.file.items ≡ a.file.items → MatchBool (a.status == 1) (b.journal ≡ None) (b.journal ≡ a.journal) → IsClimbAnswer pair c b
+ends_at_once pair c check a b some same one is status text file journal =
+    ends pair c 1 None a b (begins pair c some) (λ two. absurd (omega (arith, one, two))) (subst (λ (x : CheckAsked). IsCheckAnswer pair x a) same is) status text file journal
+
 pub has_journal : (c : ClimbAsked) (before : Option Written) (a b : Answer) → is_some a.journal ≡ is_refined a.status → b.status ≡ a.status → MatchBool (a.status == 1) (b.journal ≡ before) (b.journal ≡ a.journal)
     → HasJournal (ForClimb c) b.status b.journal
 has_journal c before a b has same journal other = go (a.status == 1) refl journal
@@ -87,3 +97,17 @@ has_journal c before a b has same journal other = go (a.status == 1) refl journa
     go : (x : Bool) → (a.status == 1) ≡ x → MatchBool x (b.journal ≡ before) (b.journal ≡ a.journal) → IsTrue (is_some b.journal)
     go true e j = absurd (other (same ∙ eqb-true a.status 1 e))
     go false e j = ap is_some j ∙ has ∙ ap not e
+
+agree_at : (pair : Pair) (c : ClimbAsked) (k : ℕ) (a : Answer) → IsCheckAnswer pair (check_of_climb c k) a → a.status ≡ 2 → AgreeBelow pair k
+agree_at pair c k a (Equivalent n, is, status, text) two = absurd (omega (arith, status, two))
+agree_at pair c k a (Different t j, is, status, text) two = absurd (omega (arith, status, two))
+agree_at pair c k a (Undecided n u, is, status, text) two = is.0
+
+for_more : (pair : Pair) (k : ℕ) (version : Standing) (o : Option Refined) → version.pair ≡ pair → version.k ≡ k → IfSome o (λ n. (n.pair ≡ version.pair) × (n.k ≡ version.k)) → IfSome o (IsKnownFor pair (k + 1))
+for_more pair k version None same at h = h
+for_more pair k version (Some n) same at h = (h.0 ∙ same, omega (arith, h.1, at))
+
+-- what is known before the next depth
+pub reaches : (pair : Pair) (c : ClimbAsked) (k : ℕ) (a : Answer) (version : Standing) (r : Reached) → IsCheckAnswer pair (check_of_climb c k) a → a.status ≡ 2 → version.pair ≡ pair → version.k ≡ k → r.agreed ≡ version.k
+    → IfSome r.known (λ n. (n.pair ≡ version.pair) × (n.k ≡ version.k)) → IsReached pair (k + 1) r
+reaches pair c k a version r is two same at agreed known = (subst (AgreeBelow pair) (sym (agreed ∙ at)) (agree_at pair c k a is two), for_more pair k version r.known same at known)

@@ -1,15 +1,21 @@
 -- The answer of a climb: that of the least depth of the induction that decides, or of the greatest that is tried.
-use Rattle.std.specs.Prelude.{◌≡◌, ℕ, ◌<◌, ◌≤◌, ◌+◌, false, List, Option, None, Some}
+use Rattle.std.specs.Prelude.{◌≡◌, ℕ, ◌<◌, ◌≤◌, ◌+◌, false, List, Option, None, Some, IfSome}
 use Rattle.circ_model.specs.Meaning.{Pair}
-use Rattle.circ_model.specs.Verdict.{Undecided, IsVerdict}
+use Rattle.circ_model.specs.Verdict.{AgreeBelow, Undecided, IsVerdict}
 use Rattle.refine_board.specs.Running.{Written}
 use Rattle.command_line.specs.Asked.{CheckAsked, ClimbAsked}
+use Rattle.split_workers.specs.Refined.{IsKnownFor}
+use Rattle.sec_cli.specs.declared.checking.Reached.{Reached}
 use Rattle.sec_cli.specs.declared.ending.Answer.{Answer}
 use Rattle.sec_cli.specs.Answers.{IsCheckAnswer, IsJournalOf}
 
 -- the check with induction over k frames, and a search for a difference in the first k: no class lines, no numbers of entries, no stored files, no ties
 abbrev pub check_of_climb : ClimbAsked → ℕ → CheckAsked
 check_of_climb c k = record { left = c.left; right = c.right; k = k; depth = k; workers = c.workers; classes = false; stats = false; trace = None; cert = None; tied = false; least = c.least }
+
+-- the outputs agree in the first frames, and the classes that are known, if any, are of no greater k
+abbrev pub IsReached : Pair → ℕ → Reached → Type 0
+IsReached pair k r = AgreeBelow pair r.agreed × IfSome r.known (IsKnownFor pair k)
 
 -- induction over k frames, and a search for a difference in the first k, decide nothing
 abbrev pub IsOpen : Pair → ℕ → Type 0

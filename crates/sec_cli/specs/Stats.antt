@@ -7,7 +7,7 @@ use Rattle.refine_board.specs.Tallies.{is_offered, is_split, is_back, offered_en
 use Rattle.sec_cli.specs.declared.counting.Stats.{Stats}
 
 abbrev pub is_counted : Step → Bool
-is_counted (Counted p) = true
+is_counted (Counted p w) = true
 is_counted e = false
 
 abbrev pub counted_entries : List Entry → ℕ

@@ -1,5 +1,5 @@
 // The answer of `check`: the verdict of a pair, and its text.
-ghost use Rattle.std.specs.Prelude.{◌≡◌, ◌≢◌, ◌≤◌, ◌<◌, ◌++◌, ℕ, List, [], length, is_some, IfOk, OnOk};
+ghost use Rattle.std.specs.Prelude.{◌≡◌, ◌≢◌, ◌≤◌, ◌<◌, ◌++◌, ℕ, List, [], length, is_some, IfOk, IfSome, OnOk};
 ghost use Rattle.circ_model.specs.Meaning.{IsSoundPair, places_of, outputs_of};
 ghost use Rattle.circ_model.specs.Verdict.{AgreeBelow};
 ghost use Rattle.class_partition.specs.Classes.{ArePartition, AreOfGreatest};
@@ -7,7 +7,9 @@ ghost use Rattle.class_partition.specs.Laws.{PairOutput};
 ghost use Rattle.induction_base.specs.Least.{IsLeastOrNone, IsShown};
 ghost use Rattle.command_line.specs.Asked.{check_asked, IsCheckWithin};
 ghost use Rattle.pair_pool.specs.Unpaired.{AreLeftOut};
+ghost use Rattle.split_workers.specs.Refined.{IsKnownFor, IsRefined};
 ghost use Rattle.sec_cli.specs.Answers.{AreClassLines, IsCertOf, IsCheckAnswer, IsJournalOf, IsRefinedText, IsShownAs, is_refined, stats_lines};
+ghost use Rattle.sec_cli.specs.Climbs.{IsReached};
 
 use crate::counting::{stats_line, stats_of};
 use crate::ending::Answer;
@@ -21,11 +23,12 @@ use product_machine::Product;
 use refine_board::Journal;
 use run_texts::{different_line, equivalent_line, push_numbers, undecided_head};
 use sec_base::Gate;
-use split_workers::{Refined, refine};
+use split_workers::{Refined, refine, refine_known};
 use std::alloc::{AllocError, Global};
 use std::sync::Wait;
 use std::thread::Threads;
 use trace_witness::write_trace;
+use verdict_stamp::{Known, Version};
 
 // Adds the class lines where they are asked for.
 fn push_classes(
@@ -79,28 +82,29 @@ fn push_lines(
     push_stats(alloc, c, journal, text)
 }
 
-// The least difference below the depth, where the outputs agree in the first frame. Those that the classes pair agree for ever, so
-// only the others are asked for.
+// The least difference below the depth, where the outputs agree in the first frames. Those that the classes pair agree for ever,
+// so only the others are asked for.
 fn deeper_difference(
     alloc: Global,
     product: &Product,
     c: &Check,
     classes: &Classes,
+    agreed: u32,
 ) -> Result<Option<Diff>, AllocError>
     requires sound { IsSoundPair product.now }
     requires partition { ArePartition (places_of product.now) classes.now }
     requires greatest { AreOfGreatest product.now c.now.k classes.now }
-    requires agree { AgreeBelow product.now 1 }
+    requires agree { AgreeBelow product.now agreed }
     requires within { IsCheckWithin (check_asked c.now) }
     ensures { IfOk result (IsLeastOrNone product.now c.now.depth) }
 {
-    if c.depth == 1 {
+    if c.depth <= agreed {
         return Ok(None);
     }
-    least_difference_beyond(alloc, product, classes, 1, c.depth)
+    least_difference_beyond(alloc, product, classes, agreed, c.depth)
 }
 
-// The answer by the classes of the greatest correspondence, where no run differs in the first frame. Where the classes pair all
+// The answer by the classes of the greatest correspondence, where no run differs in the first frames. Where the classes pair all
 // outputs no run differs at all, and no deeper search is made.
 fn answer_by(
     alloc: Global,
@@ -108,12 +112,13 @@ fn answer_by(
     c: &Check,
     classes: &Classes,
     journal: Journal,
+    agreed: u32,
 ) -> Result<Answer, AllocError>
     requires sound { IsSoundPair product.now }
     requires partition { ArePartition (places_of product.now) classes.now }
     requires greatest { AreOfGreatest product.now c.now.k classes.now }
     requires journal { IsJournalOf product.now (check_asked c.now) journal.entries }
-    requires agree { AgreeBelow product.now 1 }
+    requires agree { AgreeBelow product.now agreed }
     requires within { IsCheckWithin (check_asked c.now) }
     ensures answer { IfOk result (IsCheckAnswer product.now (check_asked c.now)) }
     ensures status { IfOk result (λ a. a.status ≤ 2) }
@@ -124,7 +129,7 @@ fn answer_by(
     if outputs.is_empty() {
         return equivalent(alloc, product, c, classes, journal);
     }
-    match deeper_difference(alloc, product, c, classes)? {
+    match deeper_difference(alloc, product, c, classes, agreed)? {
         Some(diff) => different(alloc, product, c, diff),
         None => undecided(alloc, product, c, classes, journal, outputs.as_slice()),
     }
@@ -233,12 +238,17 @@ fn run_asked_for(
     Ok(diff)
 }
 
-// A run differs.
-fn different(alloc: Global, product: &Product, c: &Check, diff: Diff) -> Result<Answer, AllocError>
+/// The answer that a run differs.
+pub(crate) fn different(
+    alloc: Global,
+    product: &Product,
+    c: &Check,
+    diff: Diff,
+) -> Result<Answer, AllocError>
     requires shown { IsShown product.now c.now.depth diff }
     requires within { IsCheckWithin (check_asked c.now) }
     ensures answer { IfOk result (IsCheckAnswer product.now (check_asked c.now)) }
-    ensures status { IfOk result (λ a. a.status ≤ 2) }
+    ensures status { IfOk result (λ a. a.status ≡ 1) }
     ensures journal { IfOk result (λ a. is_some a.journal ≡ is_refined a.status) }
 {
     let diff = run_asked_for(alloc, product, c, diff)?;
@@ -254,6 +264,69 @@ fn different(alloc: Global, product: &Product, c: &Check, diff: Diff) -> Result<
     })
 }
 
+/// What is known of a pair before a check: in how many frames the outputs agree on every run, and the classes of the greatest
+/// correspondence for a smaller k, where there are some.
+#[derive(Drop)]
+pub(crate) struct Reached<'p> {
+    pub(crate) agreed: u32,
+    pub(crate) known: Option<Known<'p>>,
+}
+
+// The classes of the greatest correspondence. What those of a smaller k pair is not asked again.
+fn refine_from<'p, R: Threads + Wait + Sync, G: Gate>(
+    rt: &R,
+    alloc: Global,
+    product: &'p Product,
+    c: &Check,
+    known: &Option<Known<'p>>,
+    gate: &G,
+) -> Result<Refined<'p>, AllocError>
+    requires within { IsCheckWithin (check_asked c.now) }
+    requires known { IfSome known.now (IsKnownFor product.now c.now.k) }
+    ensures { IfOk result (λ r. IsRefined product.entry.now c.now.k c.now.workers r.version r.journal.entries) }
+{
+    match known {
+        Some(known) => refine_known(rt, alloc, product, c.k, c.workers, gate, known),
+        None => refine(rt, alloc, product, c.k, c.workers, gate),
+    }
+}
+
+/// The verdict of a pair of which this is known, as it is printed, and the version whose classes are those of the greatest
+/// correspondence.
+pub(crate) fn check_beyond<'p, R: Threads + Wait + Sync, G: Gate>(
+    rt: &R,
+    alloc: Global,
+    product: &'p Product,
+    c: &Check,
+    reached: &Reached<'p>,
+    gate: &G,
+) -> Result<(Answer, Version<'p>), AllocError>
+    requires within { IsCheckWithin (check_asked c.now) }
+    requires reached { IsReached product.now c.now.k reached.now }
+    ensures answer { IfOk result (λ r. IsCheckAnswer product.entry.now (check_asked c.now) r.0) }
+    ensures status { IfOk result (λ r. r.0.status ≤ 2) }
+    ensures journal { IfOk result (λ r. is_some r.0.journal ≡ is_refined r.0.status) }
+    ensures pair { IfOk result (λ r. r.1.pair ≡ product.entry.now) }
+    ensures k { IfOk result (λ r. r.1.k ≡ c.now.k) }
+    ensures greatest { IfOk result (λ r. AreOfGreatest product.entry.now c.now.k r.1.classes) }
+{
+    let _sound = product.cells();
+    let Refined {
+        version,
+        journal,
+        ..
+    } = refine_from(rt, alloc, product, c, &reached.known, gate)?;
+    let answer = answer_by(
+        alloc,
+        product,
+        c,
+        version.classes(),
+        journal,
+        reached.agreed,
+    )?;
+    Ok((answer, version))
+}
+
 /// The verdict of a pair, as it is printed.
 pub(crate) fn check_pair<R: Threads + Wait + Sync, G: Gate>(
     rt: &R,
@@ -267,14 +340,13 @@ pub(crate) fn check_pair<R: Threads + Wait + Sync, G: Gate>(
     ensures status { IfOk result (λ a. a.status ≤ 2) }
     ensures journal { IfOk result (λ a. is_some a.journal ≡ is_refined a.status) }
 {
-    let _sound = product.cells();
     if let Some(diff) = least_difference(alloc, product, 1)? {
         return different(alloc, product, c, diff);
     }
-    let Refined {
-        version,
-        journal,
-        ..
-    } = refine(rt, alloc, product, c.k, c.workers, gate)?;
-    answer_by(alloc, product, c, version.classes(), journal)
+    let reached = Reached {
+        agreed: 1,
+        known: None,
+    };
+    let (answer, _) = check_beyond(rt, alloc, product, c, &reached, gate)?;
+    Ok(answer)
 }

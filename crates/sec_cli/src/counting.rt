@@ -33,7 +33,7 @@ fn with_step(stats: Stats, step: &Step) -> Stats
             offers: stats.offers + 1,
             ..stats
         },
-        Step::Counted(_) => Stats {
+        Step::Counted(_, _) => Stats {
             counted: stats.counted + 1,
             ..stats
         },

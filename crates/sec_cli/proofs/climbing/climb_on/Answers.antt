@@ -1,0 +1,34 @@
+use Rattle.std.proofs.Common.{◌≡◌, ◌<◌, ℕ, subst, refl, arith}
+use Rattle.command_line.specs.Asked.{ClimbAsked, climb_asked}
+use Rattle.circ_model.specs.Meaning.{Pair}
+use Rattle.sec_cli.specs.Climbs.{IsReached}
+use Rattle.sec_cli.proofs.Depths.{IsSoFar, goes_on, ends, reaches}
+use Rattle.sec_cli.proofs.climbing.climb_on.Goals as goal
+
+pub loop-k-preserved : goal.loop-k-preserved
+loop-k-preserved g c =
+    let pair : Pair = c.args.product.now in
+    let asked : ClimbAsked = climb_asked c.args.c.now in
+    let lt : c.loop-k.k < asked.most = omega (arith, c.loop-k-test.true) in
+    let two : c.in_ok-answer.answer.status ≡ 2 = omega (arith, c.if-answer-ne2.false) in
+    let found = c.in_ok-answer.ensures in
+    let after = c.in_ok-next.ensures in (
+      goes_on pair asked c.loop-k.k c.loop-k.before c.in_ok-answer.answer c.loop-k.invariant.0 lt found.answer two,
+      reaches pair asked c.loop-k.k c.in_ok-answer.answer c.in_ok-answer.version c.in_ok-next.next found.answer two found.pair found.k after.agreed after.known,
+    )
+
+pub check_at-requires-2-clause-reached : goal.check_at-requires-2-clause-reached
+check_at-requires-2-clause-reached g c =
+    let pair : Pair = c.args.product.now in
+    let asked : ClimbAsked = climb_asked c.args.c.now in
+    let last : c.loop-k.k ≡ asked.most = omega (arith, c.loop-k-test.false, c.loop-k.invariant.0.few) in
+    subst (λ (n : ℕ). IsReached pair n c.loop-k.known) last c.loop-k.invariant.1
+
+pub returns-clause-answer : goal.returns-clause-answer
+returns-clause-answer g c =
+    let pair : Pair = c.args.product.now in
+    let asked : ClimbAsked = climb_asked c.args.c.now in
+    let last : c.loop-k.k ≡ asked.most = omega (arith, c.loop-k-test.false, c.loop-k.invariant.0.few) in
+    let so : IsSoFar pair asked asked.most c.loop-k.before = subst (λ (n : ℕ). IsSoFar pair asked n c.loop-k.before) last c.loop-k.invariant.0 in
+    let done = c.ended-2.ensures in
+    ends pair asked asked.most c.loop-k.before c.in_ok-answer-2.answer c.ended-2.result so (λ two. refl) c.in_ok-answer-2.ensures.answer done.status done.text done.file done.journal
