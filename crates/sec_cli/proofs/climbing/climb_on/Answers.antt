@@ -1,6 +1,7 @@
 use Rattle.std.proofs.Common.{◌≡◌, ◌<◌, ℕ, subst, refl, arith}
 use Rattle.command_line.specs.Asked.{ClimbAsked, climb_asked}
 use Rattle.circ_model.specs.Meaning.{Pair}
+use Rattle.sec_cli.specs.Climbs.{IsReached}
 use Rattle.sec_cli.proofs.Depths.{IsSoFar, goes_on, ends, reaches}
 use Rattle.sec_cli.proofs.climbing.climb_on.Goals as goal
 
@@ -15,6 +16,13 @@ loop-k-preserved g c =
       goes_on pair asked c.loop-k.k c.loop-k.before c.in_ok-answer.answer c.loop-k.invariant.0 lt found.answer two,
       reaches pair asked c.loop-k.k c.in_ok-answer.answer c.in_ok-answer.version c.in_ok-next.next found.answer two found.pair found.k after.agreed after.known,
     )
+
+pub check_at-requires-2-clause-reached : goal.check_at-requires-2-clause-reached
+check_at-requires-2-clause-reached g c =
+    let pair : Pair = c.args.product.now in
+    let asked : ClimbAsked = climb_asked c.args.c.now in
+    let last : c.loop-k.k ≡ asked.most = omega (arith, c.loop-k-test.false, c.loop-k.invariant.0.few) in
+    subst (λ (n : ℕ). IsReached pair n c.loop-k.known) last c.loop-k.invariant.1
 
 pub returns-clause-answer : goal.returns-clause-answer
 returns-clause-answer g c =
