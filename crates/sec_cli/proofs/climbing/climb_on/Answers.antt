@@ -18,11 +18,18 @@ loop-k-preserved g c =
     )
 
 pub check_at-requires-2-clause-reached : goal.check_at-requires-2-clause-reached
-check_at-requires-2-clause-reached g c =
+check_at-requires-2-clause-reached g c = λ lives fits.
     let pair : Pair = c.args.product.now in
     let asked : ClimbAsked = climb_asked c.args.c.now in
     let last : c.loop-k.k ≡ asked.most = omega (arith, c.loop-k-test.false, c.loop-k.invariant.0.few) in
     subst (λ (n : ℕ). IsReached pair n c.loop-k.known) last c.loop-k.invariant.1
+
+pub returns-then-answer-ne2-clause-answer : goal.returns-then-answer-ne2-clause-answer
+returns-then-answer-ne2-clause-answer g c =
+    let pair : Pair = c.args.product.now in
+    let asked : ClimbAsked = climb_asked c.args.c.now in
+    let done = c.ended.ensures in
+    ends pair asked c.loop-k.k c.loop-k.before c.in_ok-answer.answer c.ended.result c.loop-k.invariant.0 (λ two. absurd (c.if-answer-ne2.true two)) c.in_ok-answer.ensures.answer done.status done.text done.file done.journal
 
 pub returns-clause-answer : goal.returns-clause-answer
 returns-clause-answer g c =
