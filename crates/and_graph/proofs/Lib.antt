@@ -3,3 +3,4 @@ pub mod ConeMembers
 pub mod Valuations
 pub mod Pure
 pub mod Learning
+pub mod Questions

@@ -1,26 +1,31 @@
 //! Questions to the solver over cones: whether two literals can differ.
 //!
 //! First a window is asked about, the highest nodes of the cone over whatever values the nodes below may take, since most
-//! equal literals are equal for a reason near by (Kuehlmann and Krohm, DAC 1997). Where that doesn't settle it, the cone is.
-ghost use Rattle.std.specs.Prelude.{◌≡◌, ◌<◌, ◌/◌, [], ℕ, IfOk, IfNone, length};
+//! equal literals are equal for a reason near by (Kuehlmann and Krohm, DAC 1997). Where that doesn't settle it, the cone is. A
+//! question over a large cone may be put aside: it is solved without the graph, which others change meanwhile, and its answer is
+//! taken in once what it rests on is found to stand.
+ghost use Rattle.std.specs.Prelude.{◌≡◌, ◌<◌, ◌/◌, IfOk, IfNone, IfSome, length};
 ghost use Rattle.and_graph.specs.Graphs.{AreEqual, IsGraph};
 ghost use Rattle.and_graph.specs.Lemmas.{AreLemmas};
 
 use crate::canonical::canonical_of;
-use crate::clauses::add_apart;
 use crate::cone::Cone;
+use crate::halt::Halt;
 use crate::lemmas::Lemmas;
 use crate::node::Node;
 use crate::pattern::{Pattern, pattern_of};
+use crate::posed::{Found, Posed};
 use circ_model::Lit;
 use cnf_store::Cnf;
 use sat_core::{Answer, Ready, Workspace};
 use std::alloc::{AllocError, Global};
+use std::marker::Model;
 
 /// How many nodes a window has.
 const WINDOW: u32 = 50;
 
 /// Memory that questions share, of any graphs: each costs what its cone does. What was asked before changes no answer's meaning.
+/// Contracts see how many nodes the cone of a question has at most that isn't put aside.
 #[derive(Drop)]
 pub struct Asker {
     cone: Cone,
@@ -28,19 +33,63 @@ pub struct Asker {
     // a question has no clauses but its own
     nothing: Ready,
     work: Workspace,
-    ghost nothing_is: { nothing ≡ record { vars = 0; clauses = [] } },
+    most: u32,
+    // what is put aside, of the cone; and its answer, once there is one
+    posed: Option<Posed>,
+    answer: Option<Answer>,
+    found: Option<Found>,
+}
+
+impl Model for Asker {
+    ghost use Rattle.std.specs.Prelude.{◌≡◌, [], ℕ, IfSome};
+    ghost use Rattle.sat_core.specs.Answers.{IsAnswer};
+
+    ghost Value = { ℕ };
+
+    ghost view = { λ a. a.most };
+
+    ghost invariant = { λ a. (a.nothing ≡ record { vars = 0; clauses = [] }) × IfSome a.answer (IsAnswer a.cone.cnf) };
 }
 
 impl Asker {
-    /// Nothing was asked yet.
+    /// Nothing was asked yet. It answers each question at once.
     pub fn new(alloc: Global) -> Result<Asker, AllocError> {
+        Asker::posing(alloc, u32::MAX)
+    }
+
+    /// The same, but for questions over cones of more nodes than so many: where such a one may be put aside, it is.
+    pub fn posing(alloc: Global, most: u32) -> Result<Asker, AllocError>
+        ensures { IfOk result (λ a. a ≡ most) }
+    {
         let none = Cnf::new(alloc, 0)?;
         Ok(Asker {
             cone: Cone::new(alloc)?,
             clause: Vec::new(alloc),
             nothing: Ready::new(alloc, &none)?,
             work: Workspace::new(),
+            most,
+            posed: None,
+            answer: None,
+            found: None,
         })
+    }
+
+    /// Whether the question that is put aside rests on a node.
+    pub fn rests_on(&self, n: u32) -> bool {
+        let j = self.cone.frontier.number_of(n) as usize;
+        self.posed.is_some() && j < self.cone.members.len() && self.cone.members[j] == n
+    }
+
+    /// Solves the question that is put aside, if there is one. It errs for want of memory alone.
+    pub fn solve(&mut self, alloc: Global) -> Result<(), AllocError> {
+        if self.posed.is_some() {
+            let _vars = self.cone.cnf.vars();
+            let answer = self
+                .nothing
+                .solve_in(alloc, &mut self.work, &self.cone.cnf)?;
+            self.answer = Some(answer);
+        }
+        Ok(())
     }
 
     // Asks about so many nodes of the cone, the highest first. Where all are asked about, lemmas are taken in.
@@ -49,37 +98,62 @@ impl Asker {
         alloc: Global,
         nodes: &[Node],
         lemmas: &mut Lemmas,
-        a: Lit,
-        b: Lit,
+        x: Lit,
+        y: Lit,
         most: u32,
     ) -> Result<Option<Pattern>, AllocError>
         requires graph { IsGraph nodes.now }
-        requires left { a / 2 < length nodes.now }
-        requires right { b / 2 < length nodes.now }
+        requires left { x / 2 < length nodes.now }
+        requires right { y / 2 < length nodes.now }
         requires lemmas { AreLemmas nodes.now lemmas.old.clauses }
         ensures lemmas { AreLemmas nodes.now lemmas.new.clauses }
-        ensures equal { IfOk result (λ found. IfNone found (AreEqual nodes.now a b)) }
+        ensures equal { IfOk result (λ found. IfNone found (AreEqual nodes.now x y)) }
     {
-        self.cone.clear();
-        let x = canonical_of(nodes, a);
-        let y = canonical_of(nodes, b);
-        let left = self.cone.member_of(x.var())?;
-        let right = self.cone.member_of(y.var())?;
-        self.cone.lay(nodes, most, lemmas, &mut self.clause)?;
-        let cnf = &mut self.cone.cnf;
-        let given = cnf.len();
-        let _vars = cnf.vars();
-        add_apart(cnf, (left, x.complement()), (right, y.complement()))?;
-        match self.nothing.solve_in(alloc, &mut self.work, cnf)? {
-            Answer::Unsat(log) => {
-                let members = &self.cone.members;
-                lemmas.learn(alloc, nodes, members, cnf, given, &log)?;
-                Ok(None)
-            }
-            Answer::Sat(row) => {
-                let members = &self.cone.members;
-                Ok(Some(pattern_of(alloc, nodes, members, &row)?))
-            }
+        self.posed = None;
+        self.answer = None;
+        let cone = &mut self.cone;
+        let given = cone.pose(nodes, lemmas, x, y, most, &mut self.clause)?;
+        let answer = self.nothing.solve_in(alloc, &mut self.work, &cone.cnf)?;
+        cone.take(alloc, nodes, lemmas, Posed { x, y, given }, &answer)
+    }
+
+    // Asks about the whole cone, or puts that aside where it is large.
+    fn ask_or_pose(
+        &mut self,
+        alloc: Global,
+        nodes: &[Node],
+        lemmas: &mut Lemmas,
+        x: Lit,
+        y: Lit,
+    ) -> Result<Option<Pattern>, Halt>
+        requires graph { IsGraph nodes.now }
+        requires left { x / 2 < length nodes.now }
+        requires right { y / 2 < length nodes.now }
+        requires lemmas { AreLemmas nodes.now lemmas.old.clauses }
+        ensures lemmas { AreLemmas nodes.now lemmas.new.clauses }
+        ensures equal { IfOk result (λ found. IfNone found (AreEqual nodes.now x y)) }
+    {
+        self.posed = None;
+        self.answer = None; // it was another cone's
+        let cone = &mut self.cone;
+        let given = cone.pose(nodes, lemmas, x, y, u32::MAX, &mut self.clause)?;
+        if cone.members.len() > self.most as usize {
+            self.posed = Some(Posed { x, y, given });
+            return Err(Halt::Posed);
+        }
+        let answer = self.nothing.solve_in(alloc, &mut self.work, &cone.cnf)?;
+        let found = cone.take(alloc, nodes, lemmas, Posed { x, y, given }, &answer)?;
+        if let Some(pattern) = &found {
+            self.found = Some(Found::of(alloc, x, y, pattern)?);
+        }
+        Ok(found)
+    }
+
+    // The pattern that was found last, where it is of these literals.
+    fn found_of(&self, alloc: Global, x: Lit, y: Lit) -> Result<Option<Pattern>, AllocError> {
+        match &self.found {
+            Some(found) => found.pattern(alloc, x, y),
+            None => Ok(None),
         }
     }
 
@@ -99,10 +173,80 @@ impl Asker {
         ensures lemmas { AreLemmas nodes.now lemmas.new.clauses }
         ensures equal { IfOk result (λ found. IfNone found (AreEqual nodes.now a b)) }
     {
-        let near = self.ask(alloc, nodes, lemmas, a, b, WINDOW)?;
+        let x = canonical_of(nodes, a);
+        let y = canonical_of(nodes, b);
+        let near = self.ask(alloc, nodes, lemmas, x, y, WINDOW)?;
         if near.is_none() || self.cone.frontier.is_empty() {
             return Ok(near);
         }
-        self.ask(alloc, nodes, lemmas, a, b, u32::MAX)
+        self.ask(alloc, nodes, lemmas, x, y, u32::MAX)
+    }
+
+    // The same, where the question may be put aside. What was found of it last is answered again.
+    pub(crate) fn difference_or_pose(
+        &mut self,
+        alloc: Global,
+        nodes: &[Node],
+        lemmas: &mut Lemmas,
+        a: Lit,
+        b: Lit,
+    ) -> Result<Option<Pattern>, Halt>
+        requires graph { IsGraph nodes.now }
+        requires left { a / 2 < length nodes.now }
+        requires right { b / 2 < length nodes.now }
+        requires lemmas { AreLemmas nodes.now lemmas.old.clauses }
+        ensures lemmas { AreLemmas nodes.now lemmas.new.clauses }
+        ensures equal { IfOk result (λ found. IfNone found (AreEqual nodes.now a b)) }
+    {
+        let x = canonical_of(nodes, a);
+        let y = canonical_of(nodes, b);
+        if let Some(pattern) = self.found_of(alloc, x, y)? {
+            return Ok(Some(pattern));
+        }
+        let near = self.ask(alloc, nodes, lemmas, x, y, WINDOW)?;
+        if near.is_none() || self.cone.frontier.is_empty() {
+            return Ok(near);
+        }
+        self.ask_or_pose(alloc, nodes, lemmas, x, y)
+    }
+
+    // Takes in the answer to what was put aside, if there is one: two literals that are equal, where what that rests on is found
+    // to stand; else questions are answered at once from then on. Or what was found, for when it is asked again.
+    pub(crate) fn take_answer(
+        &mut self,
+        alloc: Global,
+        nodes: &[Node],
+        lemmas: &mut Lemmas,
+    ) -> Result<Option<(Lit, Lit)>, AllocError>
+        requires graph { IsGraph nodes.now }
+        requires lemmas { AreLemmas nodes.now lemmas.old.clauses }
+        ensures lemmas { AreLemmas nodes.now lemmas.new.clauses }
+        ensures left { IfOk result (λ r. IfSome r (λ s. s.0 / 2 < length nodes.now)) }
+        ensures right { IfOk result (λ r. IfSome r (λ s. s.1 / 2 < length nodes.now)) }
+        ensures equal { IfOk result (λ r. IfSome r (λ s. AreEqual nodes.now s.0 s.1)) }
+    {
+        let Some(answer) = self.answer.take() else {
+            return Ok(None);
+        };
+        let Some(posed) = self.posed.take() else {
+            return Ok(None);
+        };
+        let Posed { x, y, given } = posed;
+        let cone = &self.cone;
+        match &answer {
+            Answer::Sat(row) => {
+                let pattern = pattern_of(alloc, nodes, &cone.members, row)?;
+                self.found = Some(Found::of(alloc, x, y, &pattern)?);
+                Ok(None)
+            }
+            Answer::Unsat(log) => {
+                if !cone.stands(nodes, lemmas, x, y, given) {
+                    self.most = u32::MAX;
+                    return Ok(None);
+                }
+                lemmas.learn(alloc, nodes, &cone.members, &cone.cnf, given, log)?;
+                Ok(Some((x, y)))
+            }
+        }
     }
 }

@@ -21,11 +21,13 @@ pub(crate) struct Cone {
     pub members: Vec<u32>,
     pub cnf: Cnf,
     pub frontier: Frontier,
+    // of the clauses that lemmas are, which these were: hints
+    pub recalled: Vec<u32>,
 }
 
 // The operands of a node by now: the canonical literals of those that it was made with.
 #[tactic(auto, using(crate::proofs::ConeMembers::operand_within, crate::proofs::ConeMembers::node_value))]
-fn operands_of(nodes: &[Node], n: u32) -> (Lit, Lit)
+pub(crate) fn operands_of(nodes: &[Node], n: u32) -> (Lit, Lit)
     requires graph { IsGraph nodes.now }
     requires within { n < length nodes.now }
     ensures within { (result.0 / 2 < length nodes.now) × (result.1 / 2 < length nodes.now) }
@@ -43,6 +45,7 @@ impl Cone {
             members: Vec::new(alloc),
             cnf: Cnf::new(alloc, 0)?,
             frontier: Frontier::new(alloc),
+            recalled: Vec::new(alloc),
         })
     }
 
@@ -54,6 +57,7 @@ impl Cone {
         self.members.clear();
         self.cnf.cut(0, 0);
         self.frontier.clear();
+        self.recalled.clear();
     }
 
     // A new member, and a variable for it.

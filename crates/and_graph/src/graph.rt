@@ -5,6 +5,7 @@ ghost use Rattle.and_graph.specs.Graphs.{AreEqual, GrowsTo, IsGraph, IsLeaf, Obe
 
 use crate::asking::Asker;
 use crate::canonical::{canonical_of, folded, turned};
+use crate::halt::Halt;
 use crate::hashing::{Table, canonical_operands};
 use crate::lemmas::Lemmas;
 use crate::node::Node;
@@ -205,6 +206,37 @@ impl Graph {
         ensures equal { IfOk result (λ found. IfNone found (AreEqual self.old a b)) }
     {
         asker.difference(alloc, self.nodes.as_slice(), &mut self.lemmas, a, b)
+    }
+
+    /// The same, where the asker may put the question aside: then it is the asker's, which solves it without the graph, and is asked
+    /// again once its answer is taken in.
+    pub fn difference_or_pose(
+        &mut self,
+        alloc: Global,
+        asker: &mut Asker,
+        a: Lit,
+        b: Lit,
+    ) -> Result<Option<Pattern>, Halt>
+        requires left { a / 2 < length self.old }
+        requires right { b / 2 < length self.old }
+        ensures kept { self.new ≡ self.old }
+        ensures equal { IfOk result (λ found. IfNone found (AreEqual self.old a b)) }
+    {
+        asker.difference_or_pose(alloc, self.nodes.as_slice(), &mut self.lemmas, a, b)
+    }
+
+    /// Takes in the answer to the question that the asker had put aside, of this graph or of an earlier state of it: where it says
+    /// that two literals are equal, and what it rests on is found to stand, they are merged. It errs for want of memory alone.
+    pub fn take_answer(&mut self, alloc: Global, asker: &mut Asker) -> Result<(), AllocError>
+        ensures size { length self.new ≡ length self.old }
+        ensures operands { (p : ℕ) → ((node_at self.new p).left ≡ (node_at self.old p).left) × ((node_at self.new p).right ≡ (node_at self.old p).right) }
+        ensures valuations { (v : ℕ → Bool) → (Obeys self.old v → Obeys self.new v) × (Obeys self.new v → Obeys self.old v) }
+    {
+        let found = asker.take_answer(alloc, self.nodes.as_slice(), &mut self.lemmas)?;
+        if let Some(same) = found {
+            self.merge_equal(same.0, same.1);
+        }
+        Ok(())
     }
 
     /// Merges two literals that are equal under each valuation: of the nodes that they stand for by now, the later one into the

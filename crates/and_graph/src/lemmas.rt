@@ -2,7 +2,7 @@
 //! begins with them, as an incremental solver does with its learned clauses (N. Eén, N. Sörensson, Temporal induction by
 //! incremental SAT solving, BMC 2003). A line of a derivation is one where it rests on the clauses of the cone alone, and not on
 //! those that say that two literals differ.
-ghost use Rattle.std.specs.Prelude.{◌≡◌, ◌≤◌, ◌<◌, ◌^◌, ◌++◌, ◌∷◌, [], ℕ, ℤ, List, Bool, IfSome, IsTrue, OnOk, OnErr, length, slice_index_or};
+ghost use Rattle.std.specs.Prelude.{◌≡◌, ◌≤◌, ◌<◌, ◌/◌, ◌^◌, ◌++◌, ◌∷◌, [], ℕ, ℤ, List, Bool, IfSome, IsTrue, OnOk, OnErr, length, slice_index_or};
 ghost use Rattle.circ_model.specs.Meaning.{literal_value};
 ghost use Rattle.cnf_store.specs.Clauses.{AreLiterals, IsLiteral, literal_true};
 ghost use Rattle.sat_log.specs.Derivations.{AllFollow, line_at};
@@ -35,9 +35,10 @@ pub(crate) struct Lemmas {
 }
 
 // The node's literal for which a literal of a member stands.
-fn node_literal(members: &[u32], lit: i32) -> Lit
+pub(crate) fn node_literal(members: &[u32], lit: i32) -> Lit
     requires literal { IsLiteral (length members.now) lit }
     requires few { AreWithin (2 ^ 31) members.now }
+    ensures place { (size : ℕ) → AreWithin size members.now → result / 2 < size }
     ensures value { (v : ℕ → Bool) (a : List Bool) → Shows members.now v a → literal_value v result ≡ literal_true a lit }
 {
     let n = members[(lit.unsigned_abs() - 1) as usize];

@@ -70,12 +70,13 @@ impl Cone {
         Ok(true)
     }
 
-    // Takes in a lemma, where each of its nodes is a member.
+    // Takes in a lemma, the one of this number, where each of its nodes is a member.
     #[tactic(auto, using(crate::proofs::Learning::cone_lemma))]
     fn recall(
         &mut self,
         nodes: &[Node],
         lemma: &[Lit],
+        number: u32,
         clause: &mut Vec<i32>,
     ) -> Result<(), AllocError>
         requires graph { IsGraph nodes.now }
@@ -86,6 +87,7 @@ impl Cone {
     {
         if self.write(nodes, lemma, clause)? {
             self.cnf.add(clause.as_slice())?;
+            self.recalled.push(number)?;
         }
         Ok(())
     }
@@ -109,7 +111,8 @@ impl Cone {
             if at as usize >= lemmas.clauses.len() {
                 return Ok(());
             }
-            self.recall(nodes, lemmas.clauses.get(at as usize), clause)?;
+            let lemma = lemmas.clauses.get(at as usize);
+            self.recall(nodes, lemma, at, clause)?;
             at = lemmas.before(at);
         }
         Ok(())

@@ -18,16 +18,16 @@ use verdict_stamp::{Proof, Stamp, Version, Versions, greatest_classes};
 
 // An offer, and its version.
 #[derive(Drop)]
-struct Work<'v, 'p, L: Run> {
-    offer: Offer<'p, L>,
-    stamp: Stamp<'p>,
-    version: &'v Version<'p>,
+pub(crate) struct Work<'v, 'p, L: Run> {
+    pub(crate) offer: Offer<'p, L>,
+    pub(crate) stamp: Stamp<'p>,
+    pub(crate) version: &'v Version<'p>,
     ghost asked: { IsAsked version.now offer.pair },
     ghost stamped: { IsStampOf L.list stamp version.now },
 }
 
 // Asks for a pair.
-fn ask<'v, 'p, L: Run>(
+pub(crate) fn ask<'v, 'p, L: Run>(
     rt: &impl Wait,
     alloc: Global,
     board: &mut Board<'v, 'p, L>,
@@ -50,7 +50,7 @@ fn ask<'v, 'p, L: Run>(
 }
 
 // Proves the pair, and hands the answer in.
-fn answer<'v, 'p, L: Run>(
+pub(crate) fn answer<'v, 'p, L: Run>(
     alloc: Global,
     board: &mut Board<'v, 'p, L>,
     work: Work<'v, 'p, L>,
@@ -236,7 +236,7 @@ fn numbers_of(step: &Step) -> [u32; 2] {
 }
 
 // Whether entry i is this one.
-fn is_entry(
+pub(crate) fn is_entry(
     journal: &Journal,
     i: u64,
     worker: u32,

@@ -28,6 +28,9 @@ pub(crate) const DELAY: &str = "aag 2 1 1 1 0\n2\n4 2\n4\n";
 pub(crate) const LATE_DELAY: &str =
     "aag 10 1 3 1 6\n2\n4 2\n6 21\n8 1\n6\n10 4 9\n12 5 8\n14 11 13\n16 2 14\n18 3 15\n20 17 19\n";
 
+// A latch that stays at 0, beside an input.
+pub(crate) const STUCK: &str = "aag 2 1 1 1 0\n2\n4 4\n4\n";
+
 pub(crate) fn pair_of(alloc: Global, left: &str, right: &str) -> Result<Product, PairFault> {
     match (
         read_netlist(alloc, left.as_bytes()),

@@ -9,6 +9,8 @@ mod circuits;
 #[cfg(test)]
 mod claims;
 #[cfg(test)]
+mod known;
+#[cfg(test)]
 mod proving;
 #[cfg(test)]
 mod vectors;

@@ -5,8 +5,7 @@ use Rattle.std.specs.List.{range_with_len}
 use Rattle.circ_model.specs.Meaning.{Pair}
 use Rattle.class_partition.specs.Classes.{Classes, is_least}
 use Rattle.cnf_store.specs.Clauses.{Formula}
-use Rattle.frame_unroll.specs.Unrolled.{Unrolling, formula_of}
-use Rattle.frame_unroll.specs.Found.{asks, asking}
+use Rattle.frame_unroll.specs.Unrolled.{Unrolling, formula_of, asks, asking}
 use Rattle.sat_log.specs.Derivations.{Line}
 use Rattle.sat_log.specs.Parts.{Part, part_from}
 use Rattle.sat_log.specs.declared.part.Stop.{Stop}

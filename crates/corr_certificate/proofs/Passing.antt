@@ -10,9 +10,8 @@ use Rattle.class_partition.proofs.Signs.{signed-self}
 use Rattle.sat_log.specs.Derivations.{Line, IsAccepted}
 use Rattle.sat_log.proofs.Soundness.{refuted}
 use Rattle.frame_unroll.specs.declared.question.Question.{Question}
-use Rattle.frame_unroll.specs.Unrolled.{from_reset, after_classes}
-use Rattle.frame_unroll.specs.Found.{asks, NoneSought}
-use Rattle.frame_unroll.proofs.Finding.{none_sought}
+use Rattle.frame_unroll.specs.Unrolled.{from_reset, after_classes, asks, NoneSought}
+use Rattle.frame_unroll.proofs.Standing.{none_sought}
 use Rattle.frame_unroll.proofs.Members.{members_from, members_within}
 use Rattle.corr_certificate.specs.Parts.{base_formula, step_formula}
 use Rattle.corr_certificate.proofs.Supporting.{IsProved}

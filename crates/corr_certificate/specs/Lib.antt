@@ -3,5 +3,3 @@ pub mod ClassLines
 pub mod Parts
 pub mod Certificate
 pub mod Laws
-pub mod Trimming
-pub mod Writing

@@ -4,8 +4,7 @@ use Rattle.std.specs.Prelude.{◌≡◌, ℕ, ◌+◌, ◌-◌, ◌==◌, ◌&&�
 use Rattle.circ_model.specs.Meaning.{Pair}
 use Rattle.class_partition.specs.Classes.{Classes, needed, is_least}
 use Rattle.cnf_store.specs.Clauses.{Formula}
-use Rattle.frame_unroll.specs.Unrolled.{from_reset, after_classes, formula_of}
-use Rattle.frame_unroll.specs.Found.{asks, asking}
+use Rattle.frame_unroll.specs.Unrolled.{from_reset, after_classes, formula_of, asks, asking}
 use Rattle.log_check.specs.FirstBad.{IsFirstBad}
 use Rattle.sat_log.specs.Derivations.{Line}
 use Rattle.sat_log.specs.Parts.{part, part_from}

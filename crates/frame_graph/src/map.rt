@@ -111,6 +111,20 @@ impl<'p> FrameMap<'p> {
         }
     }
 
+    /// The pair of netlists.
+    pub fn product(&self) -> &'p Product
+        ensures { result.now ≡ self.now.leaves.pair }
+    {
+        self.product
+    }
+
+    /// For how many frames there are leaves.
+    pub fn frames(&self) -> u32
+        ensures { result ≡ self.now.leaves.frames }
+    {
+        self.frames
+    }
+
     /// Over how many frames the induction goes for which the places are mapped.
     pub fn depth(&self) -> u32
         ensures { result ≡ self.now.depth }
@@ -241,6 +255,14 @@ impl<'p> FrameMap<'p> {
         let _nodes = graph.len();
         let frame = self.frame_at(self.depth);
         push_own_places(&frame, graph, &mut self.literals, end)
+    }
+
+    /// Whether a place of the last frame of the step is mapped.
+    pub fn has_reached(&self, place: u32) -> bool
+        ensures { IsTrue result → self.now.depth * places_of self.now.leaves.pair + place < length self.now.literals }
+    {
+        let begin = self.depth as usize * self.product.len() as usize;
+        begin + (place as usize) < self.literals.len()
     }
 
     /// What a place owes in a frame in which the classes hold: its literal, and what stands there. On each path of the step they

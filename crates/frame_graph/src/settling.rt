@@ -9,10 +9,23 @@ ghost use Rattle.frame_graph.specs.Laws.{IsMerged};
 ghost use Rattle.frame_graph.specs.Maps.{IsResetMap, IsStepMap, induction_of};
 
 use crate::map::FrameMap;
-use and_graph::{Asker, Graph, Pattern};
+use and_graph::{Asker, Graph, Halt, Pattern};
 use circ_model::Lit;
 use class_partition::Classes;
 use std::alloc::{AllocError, Global};
+
+// Merges two literals, unless values of leaves were found under which they differ.
+#[tactic(auto, using(crate::proofs::Merges::nothing_merged, crate::proofs::Merges::merged_by))]
+fn merge_unless(graph: &mut Graph, a: Lit, b: Lit, found: &Option<Pattern>)
+    requires left { a / 2 < length graph.old }
+    requires right { b / 2 < length graph.old }
+    requires equal { IfNone found.now (AreEqual graph.old a b) }
+    ensures merged { IsMerged graph.old graph.new }
+{
+    if found.is_none() {
+        graph.merge_equal(a, b);
+    }
+}
 
 // Whether two literals can differ: none if not, and then they are one from now on; or else values of leaves under which they do.
 #[tactic(auto, using(crate::proofs::Merges::nothing_merged))]
@@ -31,13 +44,31 @@ fn settle(
     if graph.same(a, b) {
         return Ok(None);
     }
-    match graph.difference(alloc, asker, a, b)? {
-        Some(found) => Ok(Some(found)),
-        None => {
-            graph.merge_equal(a, b);
-            Ok(None)
-        }
+    let found = graph.difference(alloc, asker, a, b)?;
+    merge_unless(graph, a, b, &found);
+    Ok(found)
+}
+
+// The same, where the question may be put aside.
+#[tactic(auto, using(crate::proofs::Merges::nothing_merged))]
+fn settle_or_pose(
+    alloc: Global,
+    graph: &mut Graph,
+    asker: &mut Asker,
+    a: Lit,
+    b: Lit,
+) -> Result<Option<Pattern>, Halt>
+    requires left { a / 2 < length graph.old }
+    requires right { b / 2 < length graph.old }
+    ensures merged { IsMerged graph.old graph.new }
+    ensures equal { IfOk result (λ found. IfNone found (AreEqual graph.old a b)) }
+{
+    if graph.same(a, b) {
+        return Ok(None);
     }
+    let found = graph.difference_or_pose(alloc, asker, a, b)?;
+    merge_unless(graph, a, b, &found);
+    Ok(found)
 }
 
 impl<'p> FrameMap<'p> {
@@ -67,7 +98,7 @@ impl<'p> FrameMap<'p> {
     }
 
     /// Whether a needed pair holds in each frame from reset: none if so, on each run; or else values of leaves under which it
-    /// differs in some frame, a hint that is to be simulated. What is found equal is merged.
+    /// differs in some frame, a hint that is to be simulated. What is found equal is merged. A question may be put aside.
     pub fn settle_base(
         &self,
         alloc: Global,
@@ -75,7 +106,7 @@ impl<'p> FrameMap<'p> {
         asker: &mut Asker,
         classes: &Classes,
         member: u32,
-    ) -> Result<Option<Pattern>, AllocError>
+    ) -> Result<Option<Pattern>, Halt>
         requires place { member < places_of self.now.leaves.pair }
         requires classes { length classes.now.least ≡ places_of self.now.leaves.pair }
         requires map { IsResetMap graph.old self.now }
@@ -85,7 +116,7 @@ impl<'p> FrameMap<'p> {
         for frame in 0..self.depth() {
             let _nodes = graph.len();
             let (least, other) = self.base_pair(classes, frame, member);
-            match settle(alloc, graph, asker, least, other)? {
+            match settle_or_pose(alloc, graph, asker, least, other)? {
                 Some(found) => return Ok(Some(found)),
                 None => {}
             }
@@ -95,7 +126,7 @@ impl<'p> FrameMap<'p> {
 
     /// Whether a needed pair holds in the last frame of the step: none if so, on each of its paths; or else values of leaves
     /// under which it differs there, a hint: they may be those of a path on which the classes don't hold. What is found equal is
-    /// merged.
+    /// merged. The question may be put aside.
     pub fn settle_step(
         &self,
         alloc: Global,
@@ -103,7 +134,7 @@ impl<'p> FrameMap<'p> {
         asker: &mut Asker,
         classes: &Classes,
         member: u32,
-    ) -> Result<Option<Pattern>, AllocError>
+    ) -> Result<Option<Pattern>, Halt>
         requires place { member < places_of self.now.leaves.pair }
         requires classes { length classes.now.least ≡ places_of self.now.leaves.pair }
         requires reached { self.now.depth * places_of self.now.leaves.pair + member < length self.now.literals }
@@ -113,6 +144,6 @@ impl<'p> FrameMap<'p> {
     {
         let _nodes = graph.len();
         let (least, other) = self.step_pair(classes, member);
-        settle(alloc, graph, asker, least, other)
+        settle_or_pose(alloc, graph, asker, least, other)
     }
 }

@@ -3,14 +3,15 @@ use Rattle.frame_unroll.specs.Frames.{literal_in, values, frames, class_clauses}
 use Rattle.circ_model.specs.Correspondence.{IsLiteralPair}
 use Rattle.frame_unroll.proofs.Reading.{sought}
 use Rattle.circ_model.specs.Meaning.{places_of, left_from, right_from, Pair, IsSoundPair, Path, bit}
-use Rattle.std.proofs.Common.{◌≡◌, ◌∙◌, ◌<◌, ◌≤◌, ◌+◌, ◌-◌, ◌*◌, ℕ, zero, suc, List, [], ◌++◌, length, get_or, refl, ap, ap₂, sym, subst, arith, ℤ, Bool, true, false, append-nil}
-use Rattle.std.specs.Prelude.{flat_map, Option, None}
+use Rattle.std.proofs.Common.{◌≡◌, ◌∙◌, ◌<◌, ◌≤◌, ◌+◌, ◌-◌, ◌*◌, ℕ, zero, suc, List, [], ◌++◌, length, get_or, refl, ap, ap₂, sym, subst, arith, ℤ, Bool, true, false, append-nil, true≢false}
+use Rattle.std.specs.Prelude.{flat_map, Option, Some, None}
+use Rattle.std.proofs.Math.Nat.{mul-le-mul_right}
 use Rattle.std.specs.List.{range_with_len, All}
 use Rattle.std.proofs.lemmas.List.Elements.{All-nil}
 use Rattle.cnf_store.specs.Clauses.{satisfies, Formula, IsFormula, AreClauses}
 use Rattle.frame_unroll.specs.declared.question.Question.{Question}
 use Rattle.product_machine.specs.Cells.{cells, Shows, ReadsFrom}
-use Rattle.frame_unroll.specs.Unrolled.{Unrolling, IsSought, IsUnrolling, clauses_of, plain_clauses, variables_of, asked_clauses, asked_variables}
+use Rattle.frame_unroll.specs.Unrolled.{Unrolling, IsSought, IsUnrolling, AreFramesOf, NoneSought, asking, clauses_of, plain_clauses, variables_of, asked_clauses, asked_variables}
 use Rattle.frame_unroll.proofs.Assigning.{assignment_of, assignment_shows, length_assignment, assigned}
 use Rattle.circ_model.proofs.Rows.{length_own}
 use Rattle.frame_unroll.specs.Ready.{unrolling, IsReady}
@@ -76,3 +77,18 @@ ready_step pair k needed formula plain is few literals form vars e n =
     let one : (k + 1) - 1 ≡ k = omega arith in
     let p : plain_clauses u ≡ formula.clauses = ap (λ (m : ℕ). frames (literal_in (places_of pair)) false (cells pair) (k + 1) ++ class_clauses (literal_in (places_of pair)) m needed) one ∙ sym e in
     ready_plain u formula plain is (record { frames = omega arith; needed = literals; asked = tt }) (omega arith) form vars p n refl
+
+-- no row satisfies, each path that is sought has a row: none is sought
+pub none_sought : (u : Unrolling) (q : Question) → IsSoundPair u.pair → IsUnrolling (asking u q) → ((row : List Bool) → satisfies row (clauses_of (asking u q)) ≡ false) → NoneSought u q
+none_sought u q is fine none path sought = true≢false (sym (assigned (asking u q) path is fine sought) ∙ none (assignment_of (asking u q) path))
+
+-- what was read from a row that satisfies the frames and a question is sought
+pub sought_in : (u : Unrolling) (q : Question) (formula : Formula) (plain : ℕ) (row : List Bool) (path : Path) → IsReady u formula plain → AreFramesOf u.frames u.pair (Some q) → satisfies row (clauses_of (asking u q)) ≡ true
+    → ReadsFrom u.pair u.frames (values row (places_of u.pair)) path → IsSought (asking u q) path × Shows u.pair u.frames (values row (places_of u.pair)) path
+sought_in u q formula plain row path ready fine sat reads = sought (asking u q) path row ready.pair (record { frames = ready.fine.frames; needed = ready.fine.needed; asked = fine }) reads sat
+
+-- the bits of a frame are in the row
+pub frame_fits : (t frames n places len : ℕ) → n ≡ places → t < frames → frames * places ≤ len → t * n + n ≤ len
+frame_fits t frames n places len e lt size =
+    let h : (t + 1) * places ≤ frames * places = mul-le-mul_right places (omega arith) in
+    subst (λ (m : ℕ). t * m + m ≤ len) (sym e) (let le : t * places + places ≤ len = omega arith in le)

@@ -1,16 +1,17 @@
 //! Frames of a pair as clauses, with a question or none. The frames' clauses are made once; a question is a few clauses at
-//! the end, which go when it is dropped.
+//! the end, which go when it is dropped, or clauses of its own beside them.
 ghost use Rattle.std.specs.Prelude.{◌≡◌, ◌<◌, ◌≤◌, ◌+◌, ◌-◌, ◌*◌, ℕ, List, Bool, true, length, IfOk, OnOk, OnErr, None, Some};
-ghost use Rattle.circ_model.specs.Meaning.{Path as Steps, places_of};
+ghost use Rattle.circ_model.specs.Meaning.{Path as Steps, IsSoundPair, bit, places_of};
 ghost use Rattle.circ_model.specs.Correspondence.{IsLiteral};
 ghost use Rattle.product_machine.specs.Cells.{Shows};
-ghost use Rattle.cnf_store.specs.Clauses.{satisfies, IsFormula};
-ghost use Rattle.frame_unroll.specs.Frames.{values};
-ghost use Rattle.frame_unroll.specs.Unrolled.{Unrolling, IsSought, clauses_of, variables_of, formula_of, from_reset, after_classes};
+ghost use Rattle.cnf_store.specs.Clauses.{IsFormula, IsLiteral as IsClauseLiteral, satisfies};
+ghost use Rattle.frame_unroll.specs.Frames.{literal_in, values};
+ghost use Rattle.frame_unroll.specs.Unrolled.{Unrolling, IsSought, IsUnrolling, AreFramesOf, asked_clauses, asking, clauses_of, variables_of, formula_of, from_reset, after_classes};
 
+use crate::adding::literal_in;
 use crate::cells::add_frames;
 use crate::equalities::{add_classes, needed_of};
-use crate::path::read_path;
+use crate::path::{part_of, read_path};
 use crate::question::{Question, add_asked};
 use bit_rows::BitRow;
 use circ_model::Lit;
@@ -24,11 +25,11 @@ use std::marker::Model;
 /// from reset, their number, the needed pairs that hold in all frames but the last, and the question.
 #[derive(Drop)]
 pub struct Unrolled<'p> {
-    pub(crate) product: &'p Product,
+    product: &'p Product,
     cnf: Cnf,
     plain: u64,
     reset: bool,
-    pub(crate) count: u32,
+    count: u32,
     pairs: Vec<(Lit, Lit)>,
     question: Option<Question>,
 }
@@ -100,6 +101,32 @@ impl<'p> Unrolled<'p> {
         })
     }
 
+    /// The pair.
+    pub fn product(&self) -> &Product
+        ensures { result.now ≡ self.entry.now.pair }
+    {
+        self.product
+    }
+
+    /// How many frames there are.
+    pub fn count(&self) -> u32
+        ensures value { result ≡ self.now.frames }
+        ensures few { result ≤ 64 }
+    {
+        self.count
+    }
+
+    /// The literal of the clauses for a literal of the pair in a frame, counted from 0.
+    pub fn literal(&self, lit: Lit, frame: u32) -> i32
+        requires literal { IsLiteral self.now.pair lit }
+        requires within { frame < self.now.frames }
+        ensures value { result ≡ literal_in (places_of self.now.pair) frame lit }
+        ensures is { IsClauseLiteral (self.now.frames * places_of self.now.pair) result }
+    {
+        let n = self.product.len();
+        literal_in(n, frame, frame * n, lit)
+    }
+
     /// The clauses: those of the frames, in the order of frames and places, those of the needed pairs, and those of the
     /// question. Each path that is sought has a row that satisfies them and has its values.
     pub fn cnf(&self) -> &Cnf
@@ -147,6 +174,23 @@ impl<'p> Unrolled<'p> {
         }
     }
 
+    /// The clauses of a question, to stand beside those of the frames: over their variables and its own.
+    pub fn beside(&self, alloc: Global, question: Question) -> Result<Cnf, AllocError>
+        requires asked { AreFramesOf self.now.frames self.now.pair (Some question) }
+        ensures vars { IfOk result (λ own. own.vars ≡ variables_of (asking self.now question)) }
+        ensures clauses { IfOk result (λ own. own.clauses ≡ asked_clauses (places_of self.now.pair) (self.now.frames * places_of self.now.pair) (Some question)) }
+        ensures pair { IsSoundPair self.now.pair }
+        ensures fine { IsUnrolling (asking self.now question) }
+    {
+        let Question { a, b, first, count } = question;
+        let product = self.product;
+        let n = product.len();
+        let used = self.count * n;
+        let mut own = Cnf::new(alloc, used + count)?;
+        add_asked(alloc, &mut own, n, used, a, b, first, count)?;
+        Ok(own)
+    }
+
     /// Leaves the clauses from before the question.
     pub fn drop_question(&mut self)
         ensures { self.new ≡ record self.old { asked = None } }
@@ -165,5 +209,33 @@ impl<'p> Unrolled<'p> {
     {
         let product = self.product;
         read_path(alloc, product, row, self.count)
+    }
+
+    /// The path whose frames have the bits of a row that satisfies the clauses of the frames and a question's beside them.
+    pub fn path_beside(
+        &self,
+        alloc: Global,
+        row: &BitRow,
+        question: Question,
+    ) -> Result<Path, AllocError>
+        requires asked { AreFramesOf self.now.frames self.now.pair (Some question) }
+        requires size { length row.now ≡ variables_of (asking self.now question) }
+        requires satisfied { satisfies row.now (clauses_of (asking self.now question)) ≡ true }
+        ensures sought { IfOk result (IsSought (asking self.now question)) }
+        ensures shown { IfOk result (λ path. Shows self.now.pair self.now.frames (values row.now (places_of self.now.pair)) path) }
+    {
+        let product = self.product;
+        read_path(alloc, product, row, self.count)
+    }
+
+    /// The bits of the places in a frame, counted from 0, which stand in a row for the variables of the frames.
+    pub fn frame_row(&self, alloc: Global, row: &BitRow, frame: u32) -> Result<BitRow, AllocError>
+        requires within { frame < self.now.frames }
+        requires size { self.now.frames * places_of self.now.pair ≤ length row.now }
+        ensures size { IfOk result (λ r. length r ≡ places_of self.now.pair) }
+        ensures bits { IfOk result (λ r. (p : ℕ) → p < places_of self.now.pair → bit r p ≡ values row.now (places_of self.now.pair) frame p) }
+    {
+        let n = self.product.len();
+        part_of(alloc, row, frame * n, n)
     }
 }

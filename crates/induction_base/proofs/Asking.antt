@@ -4,11 +4,11 @@ use Rattle.std.proofs.lemmas.List.Elements.{All-nil}
 use Rattle.circ_model.specs.Meaning.{Pair, Path, IsRun, row_at, value_in}
 use Rattle.circ_model.specs.Correspondence.{HoldsIn}
 use Rattle.circ_model.proofs.Paths.{IsWindow, cut_is_run, row_of_cut, window, window_is, window_of_run}
-use Rattle.frame_unroll.specs.Unrolled.{Unrolling, Differs, IsSought, from_reset}
-use Rattle.frame_unroll.specs.Found.{IsSeen, IsFound, NoneSought, asks, asking}
-use Rattle.frame_unroll.specs.declared.found.Found.{Found}
-use Rattle.frame_unroll.specs.declared.found.Found.TheVariants as found
-use Rattle.frame_unroll.specs.declared.found.Seen.{Seen}
+use Rattle.frame_unroll.specs.Unrolled.{Unrolling, Differs, IsSought, from_reset, NoneSought, asks, asking}
+use Rattle.frame_questions.specs.Found.{IsSeen, IsFound}
+use Rattle.frame_questions.specs.declared.found.Found.{Found}
+use Rattle.frame_questions.specs.declared.found.Found.TheVariants as found
+use Rattle.frame_questions.specs.declared.found.Seen.{Seen}
 use Rattle.induction_base.specs.declared.base.Base.{Base}
 use Rattle.induction_base.specs.declared.base.Base.TheVariants.{Holds, Breaks}
 use Rattle.induction_base.specs.Base.{HoldInRuns, BreaksIn, IsBase}

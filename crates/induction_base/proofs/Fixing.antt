@@ -11,9 +11,8 @@ use Rattle.circ_model.proofs.First.{least_is_first}
 use Rattle.circ_model.proofs.Literals.{half_literal, negated_value}
 use Rattle.circ_model.proofs.Outputs.{agree_where_held}
 use Rattle.product_machine.specs.States.{output_pair}
-use Rattle.frame_unroll.specs.Assuming.{IsTrueAt, IsFoundUnder}
-use Rattle.frame_unroll.specs.Found.{asking, asks}
-use Rattle.frame_unroll.specs.Unrolled.{Unrolling, Differs, IsSought, from_reset}
+use Rattle.frame_questions.specs.Assuming.{IsTrueAt, IsFoundUnder}
+use Rattle.frame_unroll.specs.Unrolled.{Unrolling, Differs, IsSought, from_reset, asking, asks}
 use Rattle.induction_base.specs.Fixing.{IsFixed, IsLower, IsZeroAt}
 use Rattle.induction_base.specs.declared.difference.Diff.{Diff}
 use Rattle.induction_base.specs.LeastRun.{DiffersAtEnd, IsLeastRun, IsLeastRunOf}

@@ -3,8 +3,7 @@ use Rattle.std.specs.Prelude.{◌≡◌, ℕ, ◌-◌, ◌<◌, length}
 use Rattle.circ_model.specs.Meaning.{Pair, Path, IsRun, row_at}
 use Rattle.circ_model.specs.Correspondence.{HoldsIn}
 use Rattle.sat_log.specs.Derivations.{IsAccepted}
-use Rattle.frame_unroll.specs.Unrolled.{Differs, formula_of, from_reset}
-use Rattle.frame_unroll.specs.Found.{asks, asking}
+use Rattle.frame_unroll.specs.Unrolled.{Differs, formula_of, from_reset, asks, asking}
 use Rattle.induction_base.specs.declared.base.Base.{Base}
 use Rattle.induction_base.specs.declared.base.Base.TheVariants.{Holds, Breaks}
 

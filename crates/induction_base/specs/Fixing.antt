@@ -2,7 +2,7 @@
 use Rattle.std.specs.Prelude.{◌≡◌, ℕ, ◌+◌, ◌<◌, List, All, length, true, false, not, Option, Some, None}
 use Rattle.circ_model.specs.Meaning.{Pair, Path, IsPath, bit, row_at, value_in}
 use Rattle.circ_model.specs.Correspondence.{IsLiteral}
-use Rattle.frame_unroll.specs.Assuming.{IsTrueAt}
+use Rattle.frame_questions.specs.Assuming.{IsTrueAt}
 use Rattle.induction_base.specs.LeastRun.{DiffersAtEnd}
 use Rattle.induction_base.specs.Spelling.{SameBelow, spelled}
 

@@ -4,7 +4,7 @@ ghost use Rattle.circ_model.specs.Correspondence.{IsLiteral};
 ghost use Rattle.induction_base.specs.Base.{IsBase};
 
 use circ_model::Lit;
-use frame_unroll::{Found, Prepared};
+use frame_questions::{Found, Prepared};
 use product_machine::{Path, Product};
 use sat_log::Log;
 use std::alloc::{AllocError, Global};

@@ -9,7 +9,7 @@ ghost use Rattle.induction_base.specs.Least.{IsLeastOrNone};
 ghost use Rattle.induction_base.specs.Search.{AgreesAt, HoldOutputs, IsApartOrNone, IsLeastIn};
 ghost use Rattle.product_machine.specs.States.{output_pair};
 
-use crate::pattern_runs::run_apart;
+use crate::pattern_runs::{differs_at_end, run_of};
 use crate::whole_frames::WholeFrames;
 use and_graph::{Asker, Graph};
 use circ_model::Lit;
@@ -72,16 +72,12 @@ fn search(
     requires held { IfSome held (λ c. HoldOutputs product.now c.now) }
     ensures { IfOk result (IsLeastOrNone product.now k) }
 {
-    let mut graph = Graph::new(alloc, 1023)?;
-    let mut asker = Asker::new(alloc)?;
-    let mut whole = WholeFrames::new(product);
-    let found = in_frames(
-        alloc, product, held, &mut graph, &mut asker, &mut whole, from, k,
-    );
-    drop(whole);
-    drop(asker);
-    drop(graph);
-    found
+    let mut asking = FrameSearch {
+        graph: Graph::new(alloc, 1023)?,
+        asker: Asker::new(alloc)?,
+        whole: WholeFrames::new(product),
+    };
+    asking.in_frames(alloc, product, held, from, k)
 }
 
 // Whether an output is known to agree in every frame of every run.
@@ -98,102 +94,110 @@ fn is_held(product: &Product, held: Option<&Classes>, j: u32) -> bool
     }
 }
 
-// Whether an output differs in the last frame that is mapped: a run that shows it, or none.
-fn apart(
-    alloc: Global,
-    product: &Product,
-    map: &FrameMap<'_>,
-    graph: &mut Graph,
-    asker: &mut Asker,
-    whole: &mut WholeFrames<'_>,
-    t: u32,
-    j: u32,
-) -> Result<Option<Path>, AllocError>
-    requires output { j < outputs_of product.now }
-    requires few { t < 64 }
-    requires pair { map.now.leaves.pair ≡ product.now }
-    requires depth { map.now.depth ≡ t + 1 }
-    requires map { IsResetMap graph.old map.now }
-    requires whole { whole.old ≡ product.now }
-    ensures map { IsResetMap graph.new map.now }
-    ensures whole { whole.new ≡ product.now }
-    ensures found { IfOk result (IsApartOrNone product.now t (output_pair product.now j).0 (output_pair product.now j).1) }
-{
-    let _cells = product.cells();
-    let (a, b) = product.output(j);
-    match map.settle_literals(alloc, graph, asker, t, a, b)? {
-        None => Ok(None),
-        Some(pattern) => match run_apart(alloc, product, map, &pattern, t, a, b)? {
-            Some(run) => Ok(Some(run)),
-            None => whole.find(alloc, a, b, t),
-        },
-    }
+// What a frame is asked with: the hashed graph that it is mapped onto, what asks of it, and whole frames where it leaves one open.
+#[derive(Drop)]
+struct FrameSearch<'p> {
+    graph: Graph,
+    asker: Asker,
+    whole: WholeFrames<'p>,
 }
 
-// The least output that differs in the last frame that is mapped, with a run that shows it.
-fn in_frame(
-    alloc: Global,
-    product: &Product,
-    held: Option<&Classes>,
-    map: &FrameMap<'_>,
-    graph: &mut Graph,
-    asker: &mut Asker,
-    whole: &mut WholeFrames<'_>,
-    t: u32,
-) -> Result<Option<Diff>, AllocError>
-    requires few { t < 64 }
-    requires pair { map.now.leaves.pair ≡ product.now }
-    requires depth { map.now.depth ≡ t + 1 }
-    requires map { IsResetMap graph.old map.now }
-    requires whole { whole.old ≡ product.now }
-    requires held { IfSome held (λ c. HoldOutputs product.now c.now) }
-    ensures map { IsResetMap graph.new map.now }
-    ensures whole { whole.new ≡ product.now }
-    ensures found { IfOk result (IsLeastIn product.now t) }
-{
-    let _cells = product.cells();
-    for j in 0..product.outputs() {
-        if is_held(product, held, j) {
-            continue;
-        }
-        if let Some(run) = apart(alloc, product, map, graph, asker, whole, t, j)? {
-            return Ok(Some(Diff {
-                frame: t,
-                output: j,
-                run,
-            }));
+impl FrameSearch<'_> {
+    // Whether an output differs in the last frame that is mapped: a run that shows it, or none.
+    fn apart(
+        &mut self,
+        alloc: Global,
+        product: &Product,
+        map: &FrameMap<'_>,
+        t: u32,
+        j: u32,
+    ) -> Result<Option<Path>, AllocError>
+        requires output { j < outputs_of product.now }
+        requires few { t < 64 }
+        requires pair { map.now.leaves.pair ≡ product.now }
+        requires depth { map.now.depth ≡ t + 1 }
+        requires map { IsResetMap self.old.graph map.now }
+        requires whole { self.old.whole ≡ product.now }
+        ensures map { IsResetMap self.new.graph map.now }
+        ensures whole { self.new.whole ≡ product.now }
+        ensures found { IfOk result (IsApartOrNone product.now t (output_pair product.now j).0 (output_pair product.now j).1) }
+    {
+        let _cells = product.cells();
+        let (a, b) = product.output(j);
+        match map.settle_literals(alloc, &mut self.graph, &mut self.asker, t, a, b)? {
+            None => Ok(None),
+            Some(pattern) => {
+                if let Some(run) = run_of(alloc, product, map, &pattern, t)? {
+                    if differs_at_end(alloc, product, &run, t, a, b)? {
+                        return Ok(Some(run));
+                    }
+                }
+                self.whole.find(alloc, a, b, t)
+            }
         }
     }
-    Ok(None)
-}
 
-// The least difference below k, frame by frame. In the frames before `from` all outputs agree, so nothing is asked there.
-fn in_frames(
-    alloc: Global,
-    product: &Product,
-    held: Option<&Classes>,
-    graph: &mut Graph,
-    asker: &mut Asker,
-    whole: &mut WholeFrames<'_>,
-    from: u32,
-    k: u32,
-) -> Result<Option<Diff>, AllocError>
-    requires few { k ≤ 64 }
-    requires agree { AgreeBelow product.now from }
-    requires whole { whole.old ≡ product.now }
-    requires held { IfSome held (λ c. HoldOutputs product.now c.now) }
-    ensures { IfOk result (IsLeastOrNone product.now k) }
-{
-    let mut map = FrameMap::new(alloc, product, graph, k)?;
-    map.map_reset(graph, 0)?;
-    for t in 0..k {
-        map.next_reset(graph)?;
-        if t < from {
-            continue;
+    // The least output that differs in the last frame that is mapped, with a run that shows it.
+    fn in_frame(
+        &mut self,
+        alloc: Global,
+        product: &Product,
+        held: Option<&Classes>,
+        map: &FrameMap<'_>,
+        t: u32,
+    ) -> Result<Option<Diff>, AllocError>
+        requires few { t < 64 }
+        requires pair { map.now.leaves.pair ≡ product.now }
+        requires depth { map.now.depth ≡ t + 1 }
+        requires map { IsResetMap self.old.graph map.now }
+        requires whole { self.old.whole ≡ product.now }
+        requires held { IfSome held (λ c. HoldOutputs product.now c.now) }
+        ensures map { IsResetMap self.new.graph map.now }
+        ensures whole { self.new.whole ≡ product.now }
+        ensures found { IfOk result (IsLeastIn product.now t) }
+    {
+        let _cells = product.cells();
+        for j in 0..product.outputs() {
+            if is_held(product, held, j) {
+                continue;
+            }
+            if let Some(run) = self.apart(alloc, product, map, t, j)? {
+                return Ok(Some(Diff {
+                    frame: t,
+                    output: j,
+                    run,
+                }));
+            }
         }
-        if let Some(found) = in_frame(alloc, product, held, &map, graph, asker, whole, t)? {
-            return Ok(Some(found));
-        }
+        Ok(None)
     }
-    Ok(None)
+
+    // The least difference below k, frame by frame. In the frames before `from` all outputs agree, so nothing is asked there.
+    fn in_frames(
+        &mut self,
+        alloc: Global,
+        product: &Product,
+        held: Option<&Classes>,
+        from: u32,
+        k: u32,
+    ) -> Result<Option<Diff>, AllocError>
+        requires few { k ≤ 64 }
+        requires agree { AgreeBelow product.now from }
+        requires whole { self.old.whole ≡ product.now }
+        requires held { IfSome held (λ c. HoldOutputs product.now c.now) }
+        ensures { IfOk result (IsLeastOrNone product.now k) }
+    {
+        let mut map = FrameMap::new(alloc, product, &mut self.graph, k)?;
+        map.map_reset(&mut self.graph, 0)?;
+        for t in 0..k {
+            map.next_reset(&mut self.graph)?;
+            if t < from {
+                continue;
+            }
+            if let Some(found) = self.in_frame(alloc, product, held, &map, t)? {
+                return Ok(Some(found));
+            }
+        }
+        Ok(None)
+    }
 }

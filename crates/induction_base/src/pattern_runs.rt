@@ -78,7 +78,7 @@ fn rows_of(
 }
 
 // The run that a pattern gives, up to a frame; none where that is no run.
-fn run_of(
+pub(crate) fn run_of(
     alloc: Global,
     product: &Product,
     map: &FrameMap<'_>,
@@ -111,7 +111,7 @@ fn value_of(row: &BitRow, lit: Lit) -> bool
 }
 
 // Whether two literals differ in the last frame of a run.
-fn differs_at_end(
+pub(crate) fn differs_at_end(
     alloc: Global,
     product: &Product,
     run: &Path,
@@ -128,32 +128,4 @@ fn differs_at_end(
     let mut scratch = Scratch::for_product(alloc, product)?;
     product.values_at(run, t as u64, &mut scratch);
     Ok(value_of(scratch.values(), a) != value_of(scratch.values(), b))
-}
-
-// A run on which two literals differ in its last frame, by a pattern under which they seem to; none where the run that it gives doesn't
-// show it.
-pub(crate) fn run_apart(
-    alloc: Global,
-    product: &Product,
-    map: &FrameMap<'_>,
-    pattern: &Pattern,
-    t: u32,
-    a: Lit,
-    b: Lit,
-) -> Result<Option<Path>, AllocError>
-    requires few { t < 64 }
-    requires left { IsLiteral product.now a }
-    requires right { IsLiteral product.now b }
-    ensures { IfOk result (λ r. IfSome r (ApartAtEnd product.now t a b)) }
-{
-    match run_of(alloc, product, map, pattern, t)? {
-        None => Ok(None),
-        Some(run) => {
-            if differs_at_end(alloc, product, &run, t, a, b)? {
-                Ok(Some(run))
-            } else {
-                Ok(None)
-            }
-        }
-    }
 }

@@ -6,7 +6,7 @@ ghost use Rattle.induction_base.specs.Search.{AreOfRuns, IsApartOrNone};
 
 use crate::rows::first_rows;
 use circ_model::Lit;
-use frame_unroll::{Found, Prepared, Workspace};
+use frame_questions::{Found, Prepared, Workspace};
 use product_machine::{Path, Product};
 use std::alloc::{AllocError, Global};
 use std::marker::Model;

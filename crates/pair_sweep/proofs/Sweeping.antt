@@ -1,13 +1,11 @@
 -- What a sweep keeps while its graph grows and takes in merges.
-use Rattle.std.proofs.Common.{◌≡◌, ◌∙◌, ◌<◌, ℕ, Bool, List, length, refl, ap, sym, subst}
+use Rattle.std.proofs.Common.{◌≡◌, ◌∙◌, ℕ, List, length}
 use Rattle.class_partition.specs.Classes.{Classes}
-use Rattle.circ_model.specs.Meaning.{Pair, places_of}
+use Rattle.circ_model.specs.Meaning.{places_of}
 use Rattle.and_graph.specs.declared.node.Node.{Node}
-use Rattle.and_graph.specs.Graphs.{AreEqual, GrowsTo, Obeys, node_at}
-use Rattle.frame_graph.specs.Inductions.{Induction, BasePasses, StepPasses}
-use Rattle.frame_graph.specs.Leaves.{Leaves}
+use Rattle.and_graph.specs.Graphs.{GrowsTo}
 use Rattle.frame_graph.specs.Laws.{IsLater, IsMerged}
-use Rattle.frame_graph.specs.Maps.{Mapping, IsStepMap, induction_of}
+use Rattle.frame_graph.specs.Maps.{Mapping, IsStepMap}
 use Rattle.frame_graph.proofs.Staying.{grown_is_later, merged_is_later, later_maps}
 use Rattle.pair_sweep.specs.Sweeps.{IsMemory, IsSweep}
 

@@ -11,7 +11,7 @@ pub record Extent : Type 0 where
   pub pair : Pair
   pub k : ℕ
 
--- the frames from reset, and leaves for one frame more, which the step's frames share
+-- the frames from reset, and leaves for one frame more at least, which the step's frames share
 pub record IsMemory (nodes : List Node) (resets steps : Mapping) (k : ℕ) : Type 0 where
   pub reset_map : IsResetMap nodes resets
   pub shared : steps.leaves ≡ resets.leaves

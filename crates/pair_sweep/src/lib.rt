@@ -7,5 +7,6 @@
 mod free_bit;
 mod sweep;
 
+pub use and_graph::{Asker, Halt};
 pub use free_bit::FreeBit;
 pub use sweep::{Sweep, SweepMemory};

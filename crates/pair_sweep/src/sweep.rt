@@ -1,11 +1,12 @@
 //! A sweep of one version's needed pairs, and what it leaves to that of the next version.
-ghost use Rattle.std.specs.Prelude.{◌≡◌, ◌<◌, ◌≤◌, ◌+◌, ◌*◌, ℕ, IfNone, IfOk, length};
+ghost use Rattle.std.specs.Prelude.{◌≡◌, ◌<◌, ◌≤◌, ◌+◌, ◌*◌, ◌/◌, ℕ, IfNone, IfOk, length};
 ghost use Rattle.circ_model.specs.Meaning.{places_of};
 ghost use Rattle.frame_graph.specs.Inductions.{BasePasses, StepPasses};
 ghost use Rattle.pair_sweep.specs.Sweeps.{AreOwedOf, IsSweep};
 
 use crate::free_bit::{FreeBit, decoded};
-use and_graph::{Asker, Graph};
+use and_graph::{Asker, Graph, Halt};
+use circ_model::Lit;
 use class_partition::Classes;
 use frame_graph::FrameMap;
 use product_machine::Product;
@@ -17,7 +18,6 @@ use std::marker::Model;
 pub struct SweepMemory<'p> {
     k: u32,
     graph: Graph,
-    asker: Asker,
     resets: FrameMap<'p>,
     steps: FrameMap<'p>,
 }
@@ -33,23 +33,66 @@ impl<'p> Model for SweepMemory<'p> {
 }
 
 impl<'p> SweepMemory<'p> {
-    /// A new graph, and the first k frames from reset. It errs for want of memory alone.
-    pub fn new(alloc: Global, product: &'p Product, k: u32) -> Result<SweepMemory<'p>, AllocError>
-        requires few { k ≤ 16 }
+    /// A new graph, and the first k frames from reset, with leaves for induction over so many frames at most. It errs for want of
+    /// memory alone, and so it is below.
+    pub fn new(
+        alloc: Global,
+        product: &'p Product,
+        k: u32,
+        most: u32,
+    ) -> Result<SweepMemory<'p>, AllocError>
+        requires few { most ≤ 16 }
+        requires within { k ≤ most }
         ensures { IfOk result (λ m. m ≡ record { pair = product.entry.now; k = k }) }
     {
         let mut graph = Graph::new(alloc, 1023)?;
-        let mut resets = FrameMap::new(alloc, product, &mut graph, k + 1)?;
+        let mut resets = FrameMap::new(alloc, product, &mut graph, most + 1)?;
         resets.map_reset(&mut graph, k)?;
         let steps = resets.beside(alloc);
-        let asker = Asker::new(alloc)?;
         Ok(SweepMemory {
             k,
             graph,
-            asker,
             resets,
             steps,
         })
+    }
+
+    /// For induction over one frame more: what was found of the graph holds for it too, so the graph goes on with one frame from
+    /// reset more. Where its leaves are used up, a new one begins.
+    pub fn deeper(self, alloc: Global) -> Result<SweepMemory<'p>, AllocError>
+        requires few { self.k < 16 }
+        ensures { IfOk result (λ m. m ≡ record { pair = self.entry.pair; k = self.entry.k + 1 }) }
+    {
+        let SweepMemory {
+            k,
+            mut graph,
+            mut resets,
+            steps,
+        } = self;
+        if resets.frames() == k + 1 {
+            return SweepMemory::new(alloc, resets.product(), k + 1, k + 1);
+        }
+        resets.next_reset(&mut graph)?;
+        Ok(SweepMemory {
+            k: k + 1,
+            graph,
+            resets,
+            steps,
+        })
+    }
+
+    /// The pair of netlists.
+    pub fn product(&self) -> &'p Product
+        ensures { result.now ≡ self.now.pair }
+    {
+        self.resets.product()
+    }
+
+    /// Over how many frames the induction goes.
+    pub fn k(&self) -> u32
+        ensures { result ≡ self.now.k }
+    {
+        self.k
     }
 }
 
@@ -59,7 +102,6 @@ pub struct Sweep<'v, 'p> {
     classes: &'v Classes,
     k: u32,
     graph: Graph,
-    asker: Asker,
     resets: FrameMap<'p>,
     steps: FrameMap<'p>,
 }
@@ -75,6 +117,14 @@ impl<'v, 'p> Model for Sweep<'v, 'p> {
     ghost invariant = { λ s. IsSweep s.graph s.resets s.steps s.k s.classes.now };
 }
 
+// Whether the question that an asker has put aside rests on both of two literals.
+fn rests_on_both(graph: &Graph, asker: &Asker, least: Lit, other: Lit) -> bool
+    requires left { least / 2 < length graph.now }
+    requires right { other / 2 < length graph.now }
+{
+    asker.rests_on(graph.canonical(least).var()) && asker.rests_on(graph.canonical(other).var())
+}
+
 impl<'v, 'p> Sweep<'v, 'p> {
     /// Maps the frames of the step for these classes: the first k with each place by the least place of its class. It errs for
     /// want of memory alone, and the memory of the sweep before is then gone.
@@ -85,7 +135,6 @@ impl<'v, 'p> Sweep<'v, 'p> {
         let SweepMemory {
             k,
             mut graph,
-            asker,
             resets,
             mut steps,
         } = memory;
@@ -94,7 +143,6 @@ impl<'v, 'p> Sweep<'v, 'p> {
             classes,
             k,
             graph,
-            asker,
             resets,
             steps,
         })
@@ -107,7 +155,6 @@ impl<'v, 'p> Sweep<'v, 'p> {
         let Sweep {
             k,
             graph,
-            asker,
             resets,
             steps,
             ..
@@ -115,7 +162,6 @@ impl<'v, 'p> Sweep<'v, 'p> {
         SweepMemory {
             k,
             graph,
-            asker,
             resets,
             steps,
         }
@@ -123,48 +169,41 @@ impl<'v, 'p> Sweep<'v, 'p> {
 
     /// Where a place seems to differ from its class's least place, at their relative phase, in the first k frames of some run: none,
     /// if they are found equal there on every run. It asks the solver of what the graph doesn't show. Free bits with values are a
-    /// hint, which is to be simulated. An `Err` is want of memory.
+    /// hint, which is to be simulated. An `Err` is want of memory, or a question is put aside in the asker.
     pub fn base_difference(
         &mut self,
         alloc: Global,
+        asker: &mut Asker,
         member: u32,
-    ) -> Result<Option<Vec<FreeBit>>, AllocError>
+    ) -> Result<Option<Vec<FreeBit>>, Halt>
         requires place { member < places_of self.old.pair }
         ensures kept { self.new ≡ self.old }
         ensures passes { IfOk result (λ found. IfNone found (BasePasses self.old member)) }
     {
-        let found = self.resets.settle_base(
-            alloc,
-            &mut self.graph,
-            &mut self.asker,
-            self.classes,
-            member,
-        )?;
-        decoded(alloc, &self.resets, found)
+        let frames = &self.resets;
+        let found = frames.settle_base(alloc, &mut self.graph, asker, self.classes, member)?;
+        Ok(decoded(alloc, frames, found)?)
     }
 
     /// Where it seems to differ after k frames in which the classes hold: none, if it is found equal there. It asks the solver of
     /// what the graph doesn't show. Free bits with values are a hint: they may be those of a path on which the classes don't hold,
-    /// since a member that stands for its class's least place is not asked to be equal to it. An `Err` is want of memory.
+    /// since a member that stands for its class's least place is not asked to be equal to it. An `Err` is want of memory, or
+    /// the question is put aside in the asker.
     pub fn step_difference(
         &mut self,
         alloc: Global,
+        asker: &mut Asker,
         member: u32,
-    ) -> Result<Option<Vec<FreeBit>>, AllocError>
+    ) -> Result<Option<Vec<FreeBit>>, Halt>
         requires place { member < places_of self.old.pair }
         ensures kept { self.new ≡ self.old }
         ensures passes { IfOk result (λ found. IfNone found (StepPasses self.old member)) }
     {
         let _places = self.classes.len();
         self.steps.reach(&mut self.graph, member + 1)?;
-        let found = self.steps.settle_step(
-            alloc,
-            &mut self.graph,
-            &mut self.asker,
-            self.classes,
-            member,
-        )?;
-        decoded(alloc, &self.steps, found)
+        let frames = &self.steps;
+        let found = frames.settle_step(alloc, &mut self.graph, asker, self.classes, member)?;
+        Ok(decoded(alloc, frames, found)?)
     }
 
     /// The same, where so many places are asked to owe what they owe: each by its frame, below k, and itself. Where it is found
@@ -172,6 +211,7 @@ impl<'v, 'p> Sweep<'v, 'p> {
     pub fn step_difference_where(
         &mut self,
         alloc: Global,
+        asker: &mut Asker,
         member: u32,
         owed: &[(u32, u32)],
     ) -> Result<Option<Vec<FreeBit>>, AllocError>
@@ -182,15 +222,35 @@ impl<'v, 'p> Sweep<'v, 'p> {
     {
         let _places = self.classes.len();
         self.steps.reach(&mut self.graph, member + 1)?;
-        let found = self.steps.settle_step_where(
-            alloc,
-            &mut self.graph,
-            &mut self.asker,
-            self.classes,
-            member,
-            owed,
-        )?;
+        let found = self
+            .steps
+            .settle_step_where(alloc, &mut self.graph, asker, self.classes, member, owed)?;
         decoded(alloc, &self.steps, found)
+    }
+
+    /// Whether the question that an asker has put aside rests on a place and its class's least place, in some frame in which they are to
+    /// be found equal.
+    pub fn rests_on(&self, asker: &Asker, member: u32) -> bool
+        requires place { member < places_of self.now.pair }
+    {
+        for frame in 0..self.k {
+            let (least, other) = self.resets.base_pair(self.classes, frame, member);
+            if rests_on_both(&self.graph, asker, least, other) {
+                return true;
+            }
+        }
+        if !self.steps.has_reached(member) {
+            return false;
+        }
+        let (least, other) = self.steps.step_pair(self.classes, member);
+        rests_on_both(&self.graph, asker, least, other)
+    }
+
+    /// Takes in the answer to the question that the asker had put aside. It errs for want of memory alone.
+    pub fn take_answer(&mut self, alloc: Global, asker: &mut Asker) -> Result<(), AllocError>
+        ensures { self.new ≡ self.old }
+    {
+        self.graph.take_answer(alloc, asker)
     }
 
     /// Takes in that it is equal there, however that was shown: what rests on it is mapped over its class's least place. It errs

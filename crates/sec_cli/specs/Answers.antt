@@ -6,7 +6,7 @@ use Rattle.induction_base.specs.declared.difference.Diff.{Diff}
 use Rattle.induction_base.specs.Least.{IsShown}
 use Rattle.induction_base.specs.LeastRun.{IsLeastRun}
 use Rattle.corr_certificate.specs.Certificate.{IsSupported}
-use Rattle.corr_certificate.specs.Writing.{IsCertificate}
+use Rattle.cert_writer.specs.Writing.{IsCertificate}
 use Rattle.class_partition.specs.Classes.{Classes, ArePartition, AreOfGreatest}
 use Rattle.trace_witness.specs.Lines.{lines_of}
 use Rattle.trace_witness.specs.Texts.{trace_text, trace_of}

@@ -13,10 +13,10 @@ ghost use Rattle.sec_cli.specs.Climbs.{IsReached};
 
 use crate::counting::{stats_line, stats_of};
 use crate::ending::Answer;
+use cert_writer::write_cert;
 use class_partition::Classes;
 use class_text::push_class_lines;
 use command_line::Check;
-use corr_certificate::write_cert;
 use induction_base::{Diff, least_difference, least_difference_beyond, least_run};
 use pair_pool::left_out;
 use product_machine::Product;

@@ -4,8 +4,5 @@ use Rattle.std.proofs.lemmas.List.Elements.{All-push}
 use Rattle.refine_board.specs.Running.{Owed}
 use Rattle.split_workers.specs.Seats.{AreHeld}
 
-pub held_still : (party now : ℕ) (held items : List Owed) → AreHeld party held → now ≡ party → items ≡ held → AreHeld now items
-held_still party now held items all own same = subst (λ (q : ℕ). AreHeld q items) (sym own) (subst (AreHeld party) (sym same) all)
-
 pub held_more : (party : ℕ) (held before items : List Owed) (offer : Owed) → AreHeld party held → offer.party ≡ party → before ≡ held → items ≡ before ++ offer ∷ [] → AreHeld party items
 held_more party held before items offer all own same more = subst (AreHeld party) (sym more) (All-push (λ (o : Owed). o.party ≡ party) before offer (subst (AreHeld party) (sym same) all) own)

@@ -14,7 +14,7 @@ use Rattle.refine_board.specs.Running.{Running}
 use Rattle.split_workers.specs.Tallies.{dones, ends, weights, answers}
 use Rattle.split_workers.specs.Seats.{Seated, Totals}
 use Rattle.split_workers.specs.declared.desk.Asked.{Asked}
-use Rattle.split_workers.specs.declared.desk.Asked.TheVariants.{Work, Idle, Moved, Ended, Stopped}
+use Rattle.split_workers.specs.declared.desk.Asked.TheVariants.{Work, Idle, Moved, Awaited, Ended, Stopped}
 
 -- the board of a run, and whether memory ran out
 pub record Held : Type 0 where
@@ -57,6 +57,7 @@ abbrev pub IsAskedOf : {L : Type 0} → Seated → Seated → Asked L → Type 0
 IsAskedOf before after (Work offer) = (offer.party ≡ before.party) × (after ≡ record before { owed = before.owed + 1 })
 IsAskedOf before after Idle = after ≡ before
 IsAskedOf before after Moved = after ≡ before
+IsAskedOf before after Awaited = after ≡ before
 IsAskedOf before after Ended = after ≡ record before { ended = 1 }
 IsAskedOf before after Stopped = after ≡ before
 

@@ -6,7 +6,7 @@ use Rattle.verdict_stamp.specs.declared.prover.Proof.{Proof}
 use Rattle.verdict_stamp.specs.declared.prover.Proof.TheVariants.{Holds, Splits}
 use Rattle.split_workers.specs.Seats.{Seated}
 use Rattle.split_workers.specs.declared.desk.Asked.{Asked}
-use Rattle.split_workers.specs.declared.desk.Asked.TheVariants.{Work, Idle, Moved, Ended, Stopped}
+use Rattle.split_workers.specs.declared.desk.Asked.TheVariants.{Work, Idle, Moved, Awaited, Ended, Stopped}
 
 -- its party, whether it was told that each pair is counted (0 or 1), how many answers it owes, and how many offers it holds with a vector
 pub record Laden : Type 0 where
@@ -31,6 +31,7 @@ abbrev pub IsTold : {L : Type 0} → ℕ → Laden → Asked L → Type 0
 IsTold party after (Work offer) = (offer.party ≡ party) × IsAtWork party 1 after
 IsTold party after Idle = IsAtWork party 0 after
 IsTold party after Moved = IsAtWork party 0 after
+IsTold party after Awaited = IsAtWork party 0 after
 IsTold party after Ended = IsAtEnd party after
 IsTold party after Stopped = IsAtWork party 0 after
 

@@ -5,12 +5,15 @@ ghost use Rattle.circ_model.specs.Meaning.{places_of};
 ghost use Rattle.class_partition.specs.Classes.{IsNeeded, least_of};
 ghost use Rattle.boxcar.specs.Table.{Shows};
 ghost use Rattle.verdict_stamp.specs.Proofs.{IsSettled};
+ghost use Rattle.split_workers.specs.Benches.{IsBenchOf};
 ghost use Rattle.split_workers.specs.Refined.{IsKnownFor};
 
+use crate::lent::Lent;
 use class_partition::Needed;
+use refine_board::Run;
 use std::alloc::{AllocError, Global};
 use std::marker::Model;
-use verdict_stamp::{Known, Proof, Prover, Stamp, Version, Versions};
+use verdict_stamp::{Asker, Halt, Known, Proof, Prover, Stamp, Versions};
 
 /// The frames of a version, and its stamp.
 #[derive(Drop)]
@@ -63,7 +66,7 @@ impl<'v, 'p> Bench<'v, 'p> {
         ensures listed { IfOk result (λ b. Shows versions.now b) }
         ensures version { IfOk result (λ b. b.value ≡ stamp.now.value) }
     {
-        if versions.same(self.stamp(), stamp) {
+        if versions.same(&self.stamp, stamp) {
             return Ok(self);
         }
         let Bench { prover, .. } = self;
@@ -74,27 +77,14 @@ impl<'v, 'p> Bench<'v, 'p> {
         })
     }
 
-    /// The stamp of the version.
-    pub(crate) fn stamp(&self) -> &Stamp<'p>
-        ensures { result.now ≡ self.entry.now }
-    {
-        &self.stamp
-    }
-
-    /// The version.
-    pub(crate) fn version(&self) -> &'v Version<'p>
-        ensures { result.now ≡ self.now.value }
-    {
-        self.prover.version()
-    }
-
     /// Settles a pair of its version: unasked, where the classes of an earlier k are known and pair it.
     pub(crate) fn settle(
         &mut self,
         alloc: Global,
+        asker: &mut Asker,
         pair: Needed,
         known: Option<&Known<'_>>,
-    ) -> Result<Proof<'v, 'p>, AllocError>
+    ) -> Result<Proof<'v, 'p>, Halt>
         requires needed { IsNeeded (places_of self.old.value.pair) self.old.value.classes pair.member }
         requires rep { pair.rep ≡ least_of self.old.value.classes pair.member }
         requires earlier { IfSome known (λ n. IsKnownFor self.old.value.pair self.old.value.k n.now) }
@@ -102,8 +92,38 @@ impl<'v, 'p> Bench<'v, 'p> {
         ensures settled { IfOk result (IsSettled self.old.value pair.member) }
     {
         match known {
-            Some(known) => self.prover.settle_known(alloc, pair, known),
-            None => self.prover.settle(alloc, pair),
+            Some(known) => self.prover.settle_known(alloc, asker, pair, known),
+            None => self.prover.settle(alloc, asker, pair),
         }
+    }
+
+    /// Whether the question that the asker has put aside rests on the pair of a member.
+    pub(crate) fn rests_on(&self, asker: &Asker, member: u32) -> bool {
+        self.prover.rests_on(asker, member)
+    }
+
+    /// Takes in the answer to the question that the asker had put aside.
+    pub(crate) fn take_answer(&mut self, alloc: Global, asker: &mut Asker) -> Result<(), AllocError>
+        ensures { self.new ≡ self.old }
+    {
+        self.prover.take_answer(alloc, asker)
+    }
+}
+
+/// The bench of a version: the one that there is, turned to it, or a new one.
+pub(crate) fn bench_for<'v, 'p, L: Run>(
+    alloc: Global,
+    lent: &Lent<'v, 'p, L>,
+    old: Option<Bench<'v, 'p>>,
+    stamp: &Stamp<'p>,
+) -> Result<Bench<'v, 'p>, AllocError>
+    requires old { IfSome old (IsBenchOf L.list L.pair L.k) }
+    requires listed { IsBenchOf L.list L.pair L.k stamp.now }
+    ensures listed { IfOk result (λ b. Shows L.list b) }
+    ensures version { IfOk result (λ b. b.value ≡ stamp.now.value) }
+{
+    match old {
+        Some(bench) => bench.turned_to(alloc, lent.versions, stamp),
+        None => Bench::new(alloc, lent.versions, stamp),
     }
 }

@@ -4,11 +4,10 @@ ghost use Rattle.circ_model.specs.Meaning.{places_of};
 ghost use Rattle.class_partition.specs.Classes.{AreOfGreatest};
 ghost use Rattle.refine_board.specs.States.{AllCounted};
 ghost use Rattle.refine_board.specs.Running.{IsAbout, IsOf};
-ghost use Rattle.split_workers.specs.Benches.{IsBenchOf};
 ghost use Rattle.split_workers.specs.Seats.{HaveEnded, OwesLess, no_totals};
 ghost use Rattle.split_workers.specs.Desks.{IsAskedOf, IsOutcome, held};
 
-use crate::bench::Bench;
+use crate::found::Found;
 use crate::seat::{Ledgers, Seat};
 use refine_board::{Board, Journal, Offer, Run, Take};
 use std::marker::Model;
@@ -25,18 +24,21 @@ pub(crate) enum Asked<'p, L: Run> {
     Idle,
     /// The board has another version, and the worker still holds offers.
     Moved,
+    /// Another worker has an offer in hand, and waits for its turn.
+    Awaited,
     /// Each pair is counted.
     Ended,
     /// Memory ran out, here or elsewhere: the worker is to stop.
     Stopped,
 }
 
-/// The locked value.
+/// The locked value. Beside board and ledgers it counts the workers that have an offer in hand and wait for their turn.
 #[derive(Drop)]
 pub(crate) struct Desk<'v, 'p, L: Run, E: Ledger, O: Ledger> {
     board: Board<'v, 'p, L>,
     ledgers: Ledgers<E, O>,
     stopped: bool,
+    coming: u32,
 }
 
 impl<'v, 'p, L: Run, E: Ledger, O: Ledger> Model for Desk<'v, 'p, L, E, O> {
@@ -49,12 +51,10 @@ impl<'v, 'p, L: Run, E: Ledger, O: Ledger> Model for Desk<'v, 'p, L, E, O> {
     ghost invariant = { λ d. IsDesk L.pair L.k L.workers (held d.board d.stopped) d.ledgers E.parts O.parts };
 }
 
-// Whether the board's version is the one of a worker's bench.
-fn stands_at<'v, 'p, L: Run>(board: &Board<'v, 'p, L>, bench: &Option<Bench<'v, 'p>>) -> bool
-    requires { IfSome bench.now (IsBenchOf L.list L.pair L.k) }
-{
-    match bench {
-        Some(bench) => board.is_stamped(bench.stamp()),
+// Whether the board has another version than the one of a pair that was found apart.
+fn has_moved<'p, L: Run>(board: &Board<'_, 'p, L>, held: Option<&Found<'p, L>>) -> bool {
+    match held {
+        Some(found) => !board.is_stamped(found.offer.stamp()),
         None => false,
     }
 }
@@ -91,36 +91,41 @@ impl<'v, 'p, L: Run, E: Ledger, O: Ledger> Desk<'v, 'p, L, E, O> {
             board,
             ledgers,
             stopped: false,
+            coming: 0,
         }
     }
 
-    /// Asks for work, with the worker's bench, and whether it holds offers.
+    /// Asks for work, with the last pair that the worker found apart and holds, if it holds any, and whether it has the turn.
     pub(crate) fn ask(
         &mut self,
         rt: &impl Wait,
         seat: &mut Seat<E, O>,
-        bench: &Option<Bench<'v, 'p>>,
-        holding: bool,
+        held: Option<&Found<'p, L>>,
+        has_turn: bool,
     ) -> Asked<'p, L>
         requires party { seat.old.party < L.workers }
         requires working { seat.old.ended ≡ 0 }
-        requires bench { IfSome bench.now (IsBenchOf L.list L.pair L.k) }
         ensures { IsAskedOf seat.old seat.new result }
     {
         let Desk {
             board,
             ledgers,
             stopped,
+            coming,
         } = self;
         if *stopped {
             return Asked::Stopped;
         }
-        if holding && !stands_at(board, bench) {
+        if has_turn && *coming > 0 {
+            return Asked::Awaited;
+        }
+        if has_moved(board, held) {
             return Asked::Moved;
         }
         match board.take(rt, seat.party()) {
             Ok(Take::Offer(offer)) => {
                 ledgers.owe(seat);
+                *coming = coming.saturating_add(!has_turn as u32);
                 Asked::Work(offer)
             }
             Ok(Take::Idle) => Asked::Idle,
@@ -166,6 +171,21 @@ impl<'v, 'p, L: Run, E: Ledger, O: Ledger> Desk<'v, 'p, L, E, O> {
         !self.stopped && self.board.is_idle()
     }
 
+    /// A worker with an offer in hand waits for its turn.
+    pub(crate) fn comes(&mut self) {
+        self.coming = self.coming.saturating_add(1);
+    }
+
+    /// It has it.
+    pub(crate) fn came(&mut self) {
+        self.coming = self.coming.saturating_sub(1);
+    }
+
+    /// Whether some worker with an offer in hand waits for its turn.
+    pub(crate) fn is_awaited(&self) -> bool {
+        !self.stopped && self.coming > 0
+    }
+
     /// Stops the run for want of memory.
     pub(crate) fn stop(&mut self) {
         self.stopped = true;
@@ -192,6 +212,7 @@ impl<'v, 'p, L: Run, E: Ledger, O: Ledger> Desk<'v, 'p, L, E, O> {
             board,
             ledgers,
             stopped,
+            ..
         } = self;
         if stopped {
             return None;

@@ -10,6 +10,7 @@ mod report;
 mod room;
 mod running;
 mod seat;
+mod table;
 #[cfg(test)]
 mod tests;
 mod worker;

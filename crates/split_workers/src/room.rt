@@ -2,16 +2,15 @@
 //! rings where it lets it go.
 ghost use Rattle.std.specs.Prelude.{◌≡◌, ◌<◌, IfSome, length};
 ghost use Rattle.refine_board.specs.Running.{IsAbout};
-ghost use Rattle.split_workers.specs.Benches.{IsBenchOf};
 ghost use Rattle.split_workers.specs.Seats.{HaveEnded, OwesLess};
 ghost use Rattle.split_workers.specs.Desks.{IsAskedOf, IsOutcome};
 
-use crate::bench::Bench;
 use crate::desk::{Asked, Desk};
 use crate::found::Found;
 use crate::lent::Lent;
 use crate::seat::Seat;
-use bell::Bell;
+use crate::table::Table;
+use bell::{Bell, Locked};
 use refine_board::{Journal, Offer, Run};
 use sec_base::Gate;
 use std::marker::Model;
@@ -19,10 +18,12 @@ use std::sync::Wait;
 use std::sync::ledger::Ledger;
 use verdict_stamp::{Verdict, Version};
 
-/// The desk behind its lock, with the bell that wakes those who wait for work, and what is read without the lock.
+/// The desk behind its lock, with the bell that wakes those who wait for work; the table at which workers take turns, behind a lock of
+/// its own; and what is read without a lock. Who has both locks took that of the table first.
 #[derive(Drop)]
 pub(crate) struct Room<'v, 'p, L: Run, E: Ledger, O: Ledger> {
     desk: Bell<Desk<'v, 'p, L, E, O>>,
+    table: Bell<Table<'v, 'p, L>>,
     lent: Lent<'v, 'p, L>,
 }
 
@@ -30,6 +31,7 @@ impl<'v, 'p, L: Run, E: Ledger, O: Ledger> Room<'v, 'p, L, E, O> {
     pub(crate) fn new(desk: Desk<'v, 'p, L, E, O>, lent: Lent<'v, 'p, L>) -> Room<'v, 'p, L, E, O> {
         Room {
             desk: Bell::new(desk),
+            table: Bell::new(Table::new()),
             lent,
         }
     }
@@ -130,15 +132,14 @@ impl<'r, 'v, 'p, L: Run, E: Ledger, O: Ledger, G: Gate> Caller<'r, 'v, 'p, L, E,
         self.gate.works();
     }
 
-    /// Asks for work, with the bench, and whether the worker holds offers.
+    /// Asks for work, with the last pair that the worker found apart and holds, if it holds any, and whether it has the turn.
     pub(crate) fn ask(
         &mut self,
         rt: &impl Wait,
-        bench: &Option<Bench<'v, 'p>>,
-        holding: bool,
+        held: Option<&Found<'p, L>>,
+        has_turn: bool,
     ) -> Asked<'p, L>
         requires working { self.old.ended ≡ 0 }
-        requires bench { IfSome bench.now (IsBenchOf L.list L.pair L.k) }
         ensures { IsAskedOf self.old self.new result }
     {
         self.gate.hold();
@@ -147,7 +148,7 @@ impl<'r, 'v, 'p, L: Run, E: Ledger, O: Ledger, G: Gate> Caller<'r, 'v, 'p, L, E,
             .desk
             .lock(rt)
             .value()
-            .ask(rt, &mut self.seat, bench, holding);
+            .ask(rt, &mut self.seat, held, has_turn);
         self.gate.told();
         asked
     }
@@ -155,6 +156,42 @@ impl<'r, 'v, 'p, L: Run, E: Ledger, O: Ledger, G: Gate> Caller<'r, 'v, 'p, L, E,
     /// Sleeps while there is nothing to do until another worker answers or stops the run. Each call rings the bell.
     pub(crate) fn wait(&self, rt: &impl Wait) {
         self.room.desk.wait_while(rt, |desk| desk.is_idle());
+    }
+
+    /// The worker's number.
+    pub(crate) fn party(&self) -> u32
+        ensures { result ≡ self.now.party }
+    {
+        self.seat.party()
+    }
+
+    /// The table, when it is the worker's turn, for as long as it has it.
+    pub(crate) fn turn(&self, rt: &impl Wait) -> Locked<'r, Table<'v, 'p, L>> {
+        self.room.table.lock(rt)
+    }
+
+    /// Tells that the worker has an offer in hand, and waits for its turn.
+    pub(crate) fn comes(&self, rt: &impl Wait) {
+        self.room.desk.lock(rt).value().comes();
+    }
+
+    /// The table, when it is the turn of the worker, which was told to wait for it.
+    pub(crate) fn awaited_turn(&self, rt: &impl Wait) -> Locked<'r, Table<'v, 'p, L>> {
+        let turn = self.turn(rt);
+        self.room.desk.lock(rt).value().came();
+        turn
+    }
+
+    /// Sleeps while workers with an offer in hand wait for their turn.
+    pub(crate) fn give_way(&self, rt: &impl Wait) {
+        self.room.desk.wait_while(rt, |desk| desk.is_awaited());
+    }
+
+    /// Sleeps while a worker is still settling the offer with this member.
+    pub(crate) fn wait_for(&self, rt: &impl Wait, party: u32, member: u32) {
+        self.room
+            .table
+            .wait_while(rt, |table| table.is_away(party, member));
     }
 
     /// Stops the run. Whoever waits then stops too.

@@ -94,7 +94,7 @@ fn refine_named<
     let Blanks { offers, ends, owed } = blanks;
     let (ledgers, seats) = seats::<E, O>(alloc, ends, owed, workers)?;
     let board = Board::open(alloc, offers, versions, first, workers)?;
-    let lent = Lent::new(versions, known);
+    let lent = Lent::new(versions, known, places, workers);
     let room = Room::<L, E, O>::new(Desk::new(board, ledgers), lent);
     let shared = &room;
     let told = thread::map_vec(
@@ -104,7 +104,7 @@ fn refine_named<
             requires party { seat.party < L.workers }
             requires fresh { (seat.ended ≡ 0) × (seat.owed ≡ 0) }
             ensures { IfSome result (HasEnded seat.party) }
-        { work(rt, alloc, shared, gate, seat, places) },
+        { work(rt, alloc, shared, gate, seat) },
     )?;
     let Some((version, journal)) = room.close(told) else {
         return Err(AllocError);

@@ -92,7 +92,7 @@ fn stop_while_the_other_sleeps<L: Run, E: Ledger, O: Ledger>(
     requires fresh { (seat.ended ≡ 0) × (seat.owed ≡ 0) }
 {
     let mut desk = Caller::new(room, gate, seat);
-    let Asked::Work(offer) = desk.ask(rt, &None, false) else {
+    let Asked::Work(offer) = desk.ask(rt, None, false) else {
         return false;
     };
     let found_none = gate.is_told(1, 1);
@@ -117,7 +117,6 @@ fn both_go<
     room: &Room<'_, '_, L, E, O>,
     gate: &InTurn,
     seats: Vec<Seat<E, O>>,
-    places: u32,
 ) -> Result<bool, AllocError>
     requires workers { L.workers ≡ 2 }
     requires seats { AreSeats 2 seats.items }
@@ -132,7 +131,7 @@ fn both_go<
             if seat.party() == 0 {
                 stop_while_the_other_sleeps(rt, room, gate, seat)
             } else {
-                work(rt, alloc, room, gate, seat, places).is_none()
+                work(rt, alloc, room, gate, seat).is_none()
             }
         },
     )?;
@@ -170,8 +169,9 @@ fn run_that_stops<
     let Blanks { offers, ends, owed } = blanks;
     let (ledgers, seats) = seats::<E, O>(alloc, ends, owed, 2)?;
     let board = Board::open(alloc, offers, versions, first, 2)?;
-    let room = Room::<L, E, O>::new(Desk::new(board, ledgers), Lent::new(versions, None));
-    both_go(rt, alloc, &room, gate, seats, places)
+    let lent = Lent::new(versions, None, places, 2);
+    let room = Room::<L, E, O>::new(Desk::new(board, ledgers), lent);
+    both_go(rt, alloc, &room, gate, seats)
 }
 
 // The same on a pair.

@@ -7,10 +7,11 @@ use Rattle.circ_model.proofs.Rows.{length_row}
 use Rattle.class_partition.specs.Classes.{Classes, HoldIn, IsNeeded, needed}
 use Rattle.sat_log.specs.Derivations.{Line}
 use Rattle.class_partition.proofs.Partition.{may_split_after}
-use Rattle.frame_unroll.specs.declared.found.Seen.{Seen}
-use Rattle.frame_unroll.specs.declared.found.Found.{Found}
-use Rattle.frame_unroll.specs.declared.found.Found.TheVariants as found
-use Rattle.frame_unroll.specs.Found.{IsFound, IsSeen, NoneSought}
+use Rattle.frame_questions.specs.declared.found.Seen.{Seen}
+use Rattle.frame_questions.specs.declared.found.Found.{Found}
+use Rattle.frame_questions.specs.declared.found.Found.TheVariants as found
+use Rattle.frame_questions.specs.Found.{IsFound, IsSeen}
+use Rattle.frame_unroll.specs.Unrolled.{NoneSought}
 use Rattle.frame_unroll.proofs.Members.{members_to, members_from}
 use Rattle.verdict_stamp.specs.declared.prover.Proof.{Proof}
 use Rattle.verdict_stamp.specs.declared.prover.Proof.TheVariants.{Holds, Splits}
@@ -95,8 +96,8 @@ base_found v m f s is e h = base_row v m s is (subst (IsFound (base_of v) (base_
 pub step_found : (v : Standing) (m : ℕ) (f : Found) (s : Seen) → IsVersion v → f ≡ found.Path s → IsFound (step_of v) (step_question v m) f → IsSplitOf v m s.bits
 step_found v m f s is e h = step_row v m s is (subst (IsFound (step_of v) (step_question v m)) e h)
 
-pub splits : (v : Standing) (m : ℕ) (x : Split) (pair : Pair) (k : ℕ) (bits : List Bool) → pair ≡ v.pair → k ≡ v.k → x ≡ record { pair = pair; k = k; bits = bits } → IsSplitOf v m bits → IsProof v m (Splits x)
-splits v m x pair k bits ep ek ex s = subst (λ (z : Split). IsProof v m (Splits z)) (sym ex) (ep, ek, s.apart, s.may, s.fails)
+pub splits : (v w : Standing) (m : ℕ) (x : Split) (bits : List Bool) → v ≡ w → x ≡ record { pair = v.pair; k = v.k; bits = bits } → IsSplitOf w m bits → IsProof w m (Splits x)
+splits v w m x bits ev ex s = subst (λ (z : Split). IsProof w m (Splits z)) (sym ex) (ap (λ (z : Standing). z.pair) ev, ap (λ (z : Standing). z.k) ev, s.apart, s.may, s.fails)
 
 -- what rests on the version rests on nothing that is known
 not_known : (j : ℕ) → Version ≡ Known j → ⊥
@@ -113,9 +114,6 @@ pub step_none : (v : Standing) (m : ℕ) (f : Found) (log : List Line) → f ≡
 step_none v m f log e h = let none = subst (IsFound (step_of v) (step_question v m)) e h in λ path is. step_passes v m none.0 path is.is_path is.rows is.hold
 
 -- the accessors' product and k are the version's
-pub version_is : (v w : Standing) (pair : Pair) (k : ℕ) → w ≡ v → pair ≡ w.pair → k ≡ w.k → IsVersion w → (pair ≡ v.pair) × (k ≡ v.k) × IsVersion v
-version_is v w pair k e ep ek is = (ep ∙ ap (λ (z : Standing). z.pair) e, ek ∙ ap (λ (z : Standing). z.k) e, subst IsVersion e is)
-
 pub may_by : (v : Standing) (pair : Pair) (k : ℕ) (bits : List Bool) → pair ≡ v.pair → k ≡ v.k → MaySplit v.pair v.k bits → MaySplit pair k bits
 may_by v pair k bits ep ek may = subst (λ (n : ℕ). MaySplit pair n bits) (sym ek) (subst (λ (p : Pair). MaySplit p v.k bits) (sym ep) may)
 
@@ -131,9 +129,8 @@ held_is v e classes m o row ee ec eo has =
     (subst (λ (z : Classes). IsRowApart e.pair e.k z m row) ec (subst (λ (x : Option (List Bool)). IfSome x (IsRowApart e.pair e.k classes m)) eo has))
 
 -- and the vector of such a row
-pub apart_of : (v w : Standing) (m : ℕ) (x : Split) (pair : Pair) (k : ℕ) (bits : List Bool) → v ≡ w → pair ≡ v.pair → k ≡ v.k → x ≡ record { pair = pair; k = k; bits = bits }
-    → IsRowApart v.pair v.k v.classes m bits → IsApart w m x
-apart_of v w m x pair k bits ev ep ek ex is = subst (λ (z : Standing). IsApart z m x) ev (subst (IsApart v m) (sym ex) (ep, ek, is.apart, is.may))
+pub apart_of : (v w : Standing) (m : ℕ) (x : Split) (bits : List Bool) → v ≡ w → x ≡ record { pair = v.pair; k = v.k; bits = bits } → Separates bits (needed v.classes m) → MaySplit v.pair v.k bits → IsApart w m x
+apart_of v w m x bits ev ex apart may = subst (λ (z : Standing). IsApart z m x) ev (subst (IsApart v m) (sym ex) (refl, refl, apart, may))
 
 pub apart_by : (v w : Standing) (m : ℕ) (o : Option Split) (x : Split) → v ≡ w → o ≡ Some x → IfSome o (IsApart v m) → IsApart w m x
 apart_by v w m o x ev eo has = subst (λ (z : Standing). IsApart z m x) ev (subst (λ (y : Option Split). IfSome y (IsApart v m)) eo has)

@@ -7,8 +7,7 @@ use Rattle.class_partition.specs.Classes.{Classes, ArePartition, IsNeeded, Keeps
 use Rattle.frame_graph.specs.Inductions.{Induction}
 use Rattle.pair_sweep.specs.Sweeps.{Extent}
 use Rattle.frame_unroll.specs.declared.question.Question.{Question}
-use Rattle.frame_unroll.specs.Unrolled.{Unrolling, after_classes, from_reset}
-use Rattle.frame_unroll.specs.Found.{asks}
+use Rattle.frame_unroll.specs.Unrolled.{Unrolling, after_classes, from_reset, asks}
 use Rattle.verdict_stamp.specs.declared.used.Used.{Used}
 use Rattle.verdict_stamp.specs.declared.used.Used.TheVariants.{Known}
 

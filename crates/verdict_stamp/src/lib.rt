@@ -16,6 +16,7 @@ mod versions;
 
 pub use known::Known;
 pub use laws::known_passes;
+pub use pair_sweep::{Asker, Halt};
 pub use prover::{Proof, Prover, ProverMemory};
 pub use refine::greatest_classes;
 pub use used::Used;

@@ -1,10 +1,11 @@
 //! Proving the needed pairs of a version by k-induction: by the sweep where that shows it, and else by questions over whole
 //! frames, so that the answer is exact whatever the sweep leaves open.
-ghost use Rattle.std.specs.Prelude.{◌≡◌, ◌<◌, ◌≤◌, ◌-◌, ◌/◌, ℕ, IsTrue, IfOk, IfNone, IfSome, length};
+ghost use Rattle.std.specs.Prelude.{◌≡◌, ◌<◌, ◌≤◌, ◌+◌, ◌-◌, ◌/◌, ℕ, IsTrue, IfOk, IfNone, IfSome, length};
 ghost use Rattle.circ_model.specs.Meaning.{places_of};
+ghost use Rattle.circ_model.specs.Correspondence.{MaySplit};
 ghost use Rattle.class_partition.specs.Classes.{IsNeeded, least_of, needed};
 ghost use Rattle.frame_graph.specs.Inductions.{BasePasses, StepPasses};
-ghost use Rattle.frame_unroll.specs.Found.{IsFound};
+ghost use Rattle.frame_questions.specs.Found.{IsFound};
 ghost use Rattle.verdict_stamp.specs.Versions.{IsOf, IsVersion, base_of, step_of, base_question, step_question, induction_of};
 ghost use Rattle.split_rows.specs.Rows.{AllBroken};
 ghost use Rattle.verdict_stamp.specs.Known.{IsBelow};
@@ -16,8 +17,8 @@ use crate::verdict::{Verdict, literals_of};
 use crate::version::Version;
 use bit_rows::BitRow;
 use class_partition::Needed;
-use frame_unroll::{Found, Prepared, Workspace};
-use pair_sweep::{FreeBit, Sweep, SweepMemory};
+use frame_questions::{Found, Prepared, Workspace};
+use pair_sweep::{Asker, FreeBit, Halt, Sweep, SweepMemory};
 use product_machine::Product;
 use split_rows::SplitRows;
 use std::alloc::{AllocError, Global};
@@ -60,17 +61,47 @@ impl<'p> Model for ProverMemory<'p> {
 }
 
 impl<'p> ProverMemory<'p> {
-    /// Nothing is proved yet of this pair, for induction over k frames. It errs for want of memory alone.
-    pub fn new(alloc: Global, product: &'p Product, k: u32) -> Result<ProverMemory<'p>, AllocError>
-        requires few { k ≤ 16 }
+    /// Nothing is proved yet of this pair, for induction over k frames; it may go on to so many at most. It errs for want of memory
+    /// alone.
+    pub fn new(
+        alloc: Global,
+        product: &'p Product,
+        k: u32,
+        most: u32,
+    ) -> Result<ProverMemory<'p>, AllocError>
+        requires few { most ≤ 16 }
+        requires within { k ≤ most }
         ensures { IfOk result (λ m. m ≡ record { pair = product.entry.now; k = k }) }
     {
         Ok(ProverMemory {
-            sweep: SweepMemory::new(alloc, product, k)?,
+            sweep: SweepMemory::new(alloc, product, k, most)?,
             rows: SplitRows::new(alloc, product, k),
             base: None,
             resets: Workspace::new(),
             steps: Workspace::new(),
+        })
+    }
+
+    /// For induction over one frame more, which may go on with the graph and what was proved of it. The rows don't: those of k frames
+    /// may separate pairs of the greatest correspondence for k + 1. It errs for want of memory alone.
+    pub fn deeper(self, alloc: Global) -> Result<ProverMemory<'p>, AllocError>
+        requires few { self.k < 16 }
+        ensures { IfOk result (λ m. m ≡ record { pair = self.entry.pair; k = self.entry.k + 1 }) }
+    {
+        let ProverMemory {
+            sweep,
+            resets,
+            steps,
+            ..
+        } = self;
+        let sweep = sweep.deeper(alloc)?;
+        let rows = SplitRows::new(alloc, sweep.product(), sweep.k());
+        Ok(ProverMemory {
+            sweep,
+            rows,
+            base: None,
+            resets,
+            steps,
         })
     }
 }
@@ -156,12 +187,22 @@ fn ask_step<'p>(
     found
 }
 
+// The vector of a row of a version's places.
+fn vector_under<'p>(version: &Version<'p>, row: BitRow) -> Vector<'p>
+    requires size { length row ≡ places_of version.now.pair }
+    requires may { MaySplit version.now.pair version.now.k row }
+    ensures { result ≡ record { pair = version.now.pair; k = version.now.k; bits = row } }
+{
+    Vector::of(version.product(), version.k(), row)
+}
+
 impl<'v, 'p> Prover<'v, 'p> {
     /// In memory of its own. It errs for want of memory alone.
     pub fn new(alloc: Global, version: &'v Version<'p>) -> Result<Prover<'v, 'p>, AllocError>
         ensures { IfOk result (λ p. p ≡ version.now) }
     {
-        let memory = ProverMemory::new(alloc, version.product(), version.k())?;
+        let k = version.k();
+        let memory = ProverMemory::new(alloc, version.product(), k, k)?;
         Prover::over(alloc, memory, version)
     }
 
@@ -226,7 +267,7 @@ impl<'v, 'p> Prover<'v, 'p> {
         self.current
     }
 
-    // A row that has the pair apart in one of the first k frames of a run, or none.
+    // A row that has the pair apart in one of the first k frames of a run, or none: asked over whole frames.
     fn base_row(&mut self, alloc: Global, pair: Needed) -> Result<Option<BitRow>, AllocError>
         requires place { pair.member < places_of self.old.pair }
         requires rep { pair.rep ≡ least_of self.old.classes pair.member }
@@ -234,17 +275,13 @@ impl<'v, 'p> Prover<'v, 'p> {
         ensures none { IfOk result (λ row. IfNone row (BasePasses (induction_of self.old) pair.member)) }
         ensures some { IfOk result (λ row. IfSome row (IsSplitOf self.old pair.member)) }
     {
-        match self.sweep.base_difference(alloc, pair.member)? {
-            None => return Ok(None),
-            Some(_) => {}
-        }
         match ask_base(alloc, &mut self.base, &mut self.resets, self.current, pair)? {
             Found::Path(seen) => Ok(Some(seen.bits)),
             Found::None(_) => Ok(None),
         }
     }
 
-    // A row that has it apart after k frames in which the classes hold, or none.
+    // A row that has it apart after k frames in which the classes hold, or none: asked over whole frames.
     fn step_row(&mut self, alloc: Global, pair: Needed) -> Result<Option<BitRow>, AllocError>
         requires place { pair.member < places_of self.old.pair }
         requires rep { pair.rep ≡ least_of self.old.classes pair.member }
@@ -252,10 +289,6 @@ impl<'v, 'p> Prover<'v, 'p> {
         ensures none { IfOk result (λ row. IfNone row (StepPasses (induction_of self.old) pair.member)) }
         ensures some { IfOk result (λ row. IfSome row (IsSplitOf self.old pair.member)) }
     {
-        match self.sweep.step_difference(alloc, pair.member)? {
-            None => return Ok(None),
-            Some(_) => {}
-        }
         match ask_step(alloc, &mut self.step, &mut self.steps, self.current, pair)? {
             Found::Path(seen) => Ok(Some(seen.bits)),
             Found::None(_) => {
@@ -265,8 +298,8 @@ impl<'v, 'p> Prover<'v, 'p> {
         }
     }
 
-    /// Proves a needed pair: it holds exactly where it passes, in the first k frames of every run and after k frames in
-    /// which the classes hold; else a vector separates it. It errs for want of memory alone.
+    /// Proves a needed pair by questions over whole frames: it holds exactly where it passes, in the first k frames of every run and
+    /// after k frames in which the classes hold; else a vector separates it. It errs for want of memory alone.
     pub fn prove(&mut self, alloc: Global, pair: Needed) -> Result<Proof<'v, 'p>, AllocError>
         requires needed { IsNeeded (places_of self.old.pair) self.old.classes pair.member }
         requires rep { pair.rep ≡ least_of self.old.classes pair.member }
@@ -274,13 +307,11 @@ impl<'v, 'p> Prover<'v, 'p> {
         ensures proof { IfOk result (IsProof self.old pair.member) }
     {
         let version = self.current;
-        let product = version.product();
-        let k = version.k();
         if let Some(row) = self.base_row(alloc, pair)? {
-            return Ok(Proof::Splits(Vector::of(product, k, row)));
+            return Ok(Proof::Splits(vector_under(version, row)));
         }
         if let Some(row) = self.step_row(alloc, pair)? {
-            return Ok(Proof::Splits(Vector::of(product, k, row)));
+            return Ok(Proof::Splits(vector_under(version, row)));
         }
         Ok(Proof::Holds(Verdict::of(version, pair.member)))
     }
@@ -292,27 +323,63 @@ impl<'v, 'p> Prover<'v, 'p> {
         ensures { IfOk result (λ v. IfSome v (IsApart self.now pair.member)) }
     {
         let version = self.current;
-        let product = version.product();
         match self.rows.apart(alloc, version.classes(), pair)? {
-            Some(row) => Ok(Some(Vector::of(product, version.k(), row))),
+            Some(row) => Ok(Some(vector_under(version, row))),
             None => Ok(None),
         }
     }
 
-    // Whether the pair passes by the sweep alone. Where the step seems to fail, the solver's model is run on.
-    fn passes_by_sweep(&mut self, alloc: Global, pair: Needed) -> Result<bool, AllocError>
+    // A vector that has the pair apart in one of the first k frames of a run, or none: by the sweep, and else over whole frames.
+    fn base_vector(
+        &mut self,
+        alloc: Global,
+        asker: &mut Asker,
+        pair: Needed,
+    ) -> Result<Option<Vector<'p>>, Halt>
         requires place { pair.member < places_of self.old.pair }
+        requires rep { pair.rep ≡ least_of self.old.classes pair.member }
         ensures kept { self.new ≡ self.old }
-        ensures base { IfOk result (λ passes. IsTrue passes → BasePasses (induction_of self.old) pair.member) }
-        ensures step { IfOk result (λ passes. IsTrue passes → StepPasses (induction_of self.old) pair.member) }
+        ensures none { IfOk result (λ v. IfNone v (BasePasses (induction_of self.old) pair.member)) }
+        ensures some { IfOk result (λ v. IfSome v (IsApart self.old pair.member)) }
     {
-        match self.sweep.base_difference(alloc, pair.member)? {
-            Some(_) => return Ok(false),
-            None => {}
+        let version = self.current;
+        match self.sweep.base_difference(alloc, asker, pair.member)? {
+            None => return Ok(None),
+            Some(_) => {}
         }
-        match self.sweep.step_difference(alloc, pair.member)? {
-            Some(bits) => self.passes_where(alloc, pair, bits),
-            None => Ok(true),
+        match self.base_row(alloc, pair)? {
+            Some(row) => Ok(Some(vector_under(version, row))),
+            None => Ok(None),
+        }
+    }
+
+    // A vector that has it apart, or none where it passes after k frames in which the classes hold: by the sweep; by rows that a model
+    // leads to; and else over whole frames.
+    fn step_vector(
+        &mut self,
+        alloc: Global,
+        asker: &mut Asker,
+        pair: Needed,
+    ) -> Result<Option<Vector<'p>>, Halt>
+        requires place { pair.member < places_of self.old.pair }
+        requires rep { pair.rep ≡ least_of self.old.classes pair.member }
+        ensures kept { self.new ≡ self.old }
+        ensures none { IfOk result (λ v. IfNone v (StepPasses (induction_of self.old) pair.member)) }
+        ensures some { IfOk result (λ v. IfSome v (IsApart self.old pair.member)) }
+    {
+        let version = self.current;
+        let Some(bits) = self.sweep.step_difference(alloc, asker, pair.member)? else {
+            return Ok(None);
+        };
+        if self.passes_where(alloc, asker, pair, bits)? {
+            return Ok(None);
+        }
+        if let Some(vector) = self.held(alloc, pair)? {
+            return Ok(Some(vector));
+        }
+        match self.step_row(alloc, pair)? {
+            Some(row) => Ok(Some(vector_under(version, row))),
+            None => Ok(None),
         }
     }
 
@@ -321,6 +388,7 @@ impl<'v, 'p> Prover<'v, 'p> {
     fn passes_where(
         &mut self,
         alloc: Global,
+        asker: &mut Asker,
         pair: Needed,
         model: Vec<FreeBit>,
     ) -> Result<bool, AllocError>
@@ -336,7 +404,7 @@ impl<'v, 'p> Prover<'v, 'p> {
                 return Ok(false);
             }
             owed.extend_from_slice(broken.as_slice())?;
-            match self.ask_where(alloc, pair.member, owed.as_slice())? {
+            match self.ask_where(alloc, asker, pair.member, owed.as_slice())? {
                 Some(more) => bits = more,
                 None => return Ok(true),
             }
@@ -357,6 +425,7 @@ impl<'v, 'p> Prover<'v, 'p> {
     fn ask_where(
         &mut self,
         alloc: Global,
+        asker: &mut Asker,
         member: u32,
         owed: &[(u32, u32)],
     ) -> Result<Option<Vec<FreeBit>>, AllocError>
@@ -365,7 +434,10 @@ impl<'v, 'p> Prover<'v, 'p> {
         ensures kept { self.new ≡ self.old }
         ensures passes { IfOk result (λ found. IfNone found (StepPasses (induction_of self.old) member)) }
     {
-        match self.sweep.step_difference_where(alloc, member, owed)? {
+        match self
+            .sweep
+            .step_difference_where(alloc, asker, member, owed)?
+        {
             Some(bits) => Ok(Some(bits)),
             None => {
                 self.sweep.take_passed(member)?;
@@ -376,34 +448,55 @@ impl<'v, 'p> Prover<'v, 'p> {
 
     /// Settles a needed pair: it holds, or a vector separates it. Rows that simulation found for other pairs, or other versions,
     /// are tried first, so a vector says nothing of whether the pair passes under this version: `prove` tells that. It errs for
-    /// want of memory alone.
-    pub fn settle(&mut self, alloc: Global, pair: Needed) -> Result<Proof<'v, 'p>, AllocError>
+    /// want of memory, or where a question is put aside in the asker.
+    pub fn settle(
+        &mut self,
+        alloc: Global,
+        asker: &mut Asker,
+        pair: Needed,
+    ) -> Result<Proof<'v, 'p>, Halt>
         requires needed { IsNeeded (places_of self.old.pair) self.old.classes pair.member }
         requires rep { pair.rep ≡ least_of self.old.classes pair.member }
         ensures kept { self.new ≡ self.old }
         ensures settled { IfOk result (IsSettled self.old pair.member) }
     {
+        let version = self.current;
         self.rows.run_ahead(alloc)?;
         if let Some(vector) = self.held(alloc, pair)? {
             return Ok(Proof::Splits(vector));
         }
-        if self.passes_by_sweep(alloc, pair)? {
-            return Ok(Proof::Holds(Verdict::of(self.current, pair.member)));
-        }
-        if let Some(vector) = self.held(alloc, pair)? {
+        if let Some(vector) = self.base_vector(alloc, asker, pair)? {
             return Ok(Proof::Splits(vector));
         }
-        self.prove(alloc, pair)
+        if let Some(vector) = self.step_vector(alloc, asker, pair)? {
+            return Ok(Proof::Splits(vector));
+        }
+        Ok(Proof::Holds(Verdict::of(version, pair.member)))
+    }
+
+    /// Whether the question that an asker has put aside rests on a place and its class's least place: then it is better asked once that
+    /// pair is settled. A hint.
+    pub fn rests_on(&self, asker: &Asker, member: u32) -> bool {
+        let product = self.current.product();
+        member < product.len() && self.sweep.rests_on(asker, member)
+    }
+
+    /// Takes in the answer to a question that the asker had put aside, when it has solved it. It errs for want of memory alone.
+    pub fn take_answer(&mut self, alloc: Global, asker: &mut Asker) -> Result<(), AllocError>
+        ensures { self.new ≡ self.old }
+    {
+        self.sweep.take_answer(alloc, asker)
     }
 
     /// Settles a needed pair as `settle` does, but for those that the known classes pair: they pass, and nothing is asked. It errs
-    /// for want of memory alone.
+    /// where `settle` does.
     pub fn settle_known(
         &mut self,
         alloc: Global,
+        asker: &mut Asker,
         pair: Needed,
         known: &Known<'_>,
-    ) -> Result<Proof<'v, 'p>, AllocError>
+    ) -> Result<Proof<'v, 'p>, Halt>
         requires needed { IsNeeded (places_of self.old.pair) self.old.classes pair.member }
         requires rep { pair.rep ≡ least_of self.old.classes pair.member }
         requires known { IsBelow known.now self.old }
@@ -413,7 +506,7 @@ impl<'v, 'p> Prover<'v, 'p> {
     {
         let version = self.current;
         let Some(verdict) = Verdict::known_own(version, pair, known) else {
-            return self.settle(alloc, pair);
+            return self.settle(alloc, asker, pair);
         };
         self.sweep.take_passed(pair.member)?;
         Ok(Proof::Holds(verdict))

@@ -10,7 +10,8 @@ ghost use Rattle.corr_certificate.specs.Parts.{ReadsEnd, ReadsMembers};
 ghost use Rattle.corr_certificate.specs.Certificate.{PairOutputs, ReadsBody};
 
 use crate::fault::{CertFault, CertKind, Checked};
-use crate::reading::parts::check_member;
+use crate::reading::Cursor;
+use crate::reading::parts::{Asked, Claim, check_member};
 use class_partition::Classes;
 use frame_unroll::Unrolled;
 use product_machine::Product;
@@ -57,77 +58,46 @@ fn read_end(bytes: &[u8], line: u64) -> Checked
 }
 
 // Reads the parts of all members, and the end. The frames are made once; each part swaps the question.
-fn read_members(
-    alloc: Global,
-    product: &Product,
-    k: u32,
-    classes: &Classes,
-    bytes: &[u8],
-    first: u64,
-) -> Result<Checked, AllocError>
-    requires depth { 1 ≤ k }
-    requires deep { k ≤ 16 }
-    requires places { length classes.now.least ≡ places_of product.now }
-    requires few { first + length bytes.now < 2 ^ 64 }
-    ensures { IfOk result (λ r. ReadsMembers product.now k classes.now (length (last_of 10 bytes.now) == 0) r (range_with_len 0 (places_of product.now)) first (pieces 10 bytes.now)) }
+fn read_members(alloc: Global, claim: &Claim<'_>, at: Cursor<'_>) -> Result<Checked, AllocError>
+    requires depth { 1 ≤ claim.now.k }
+    requires deep { claim.now.k ≤ 16 }
+    requires places { length claim.now.classes.now.least ≡ places_of claim.now.product.now }
+    requires few { at.line + length at.rest.now < 2 ^ 64 }
+    ensures { IfOk result (λ r. ReadsMembers claim.now.product.now claim.now.k claim.now.classes.now (length (last_of 10 at.entry.rest.now) == 0) r (range_with_len 0 (places_of claim.now.product.now)) at.entry.line (pieces 10 at.entry.rest.now)) }
 {
     let mut frames = Asked {
-        base: Unrolled::reset_frames(alloc, product, k)?,
-        step: Unrolled::step_frames(alloc, product, k, classes)?,
+        base: Unrolled::reset_frames(alloc, claim.product, claim.k)?,
+        step: Unrolled::step_frames(alloc, claim.product, claim.k, claim.classes)?,
     };
-    read_parts(alloc, product, k, classes, &mut frames, bytes, first)
-}
-
-// The frames of the questions about a needed pair: k from reset, and k + 1 in all but the last of which the classes hold.
-#[derive(Drop)]
-struct Asked<'p> {
-    base: Unrolled<'p>,
-    step: Unrolled<'p>,
+    read_parts(alloc, claim, &mut frames, at)
 }
 
 // Reads the parts of all members, and the end, over these frames.
 fn read_parts(
     alloc: Global,
-    product: &Product,
-    k: u32,
-    classes: &Classes,
+    claim: &Claim<'_>,
     frames: &mut Asked<'_>,
-    bytes: &[u8],
-    first: u64,
+    from: Cursor<'_>,
 ) -> Result<Checked, AllocError>
-    requires depth { 1 ≤ k }
-    requires deep { k ≤ 16 }
-    requires places { length classes.now.least ≡ places_of product.now }
-    requires base { frames.old.base ≡ from_reset product.now k }
-    requires step { frames.old.step ≡ after_classes product.now k classes.now }
-    requires few { first + length bytes.now < 2 ^ 64 }
-    ensures { IfOk result (λ r. ReadsMembers product.now k classes.now (length (last_of 10 bytes.now) == 0) r (range_with_len 0 (places_of product.now)) first (pieces 10 bytes.now)) }
+    requires depth { 1 ≤ claim.now.k }
+    requires deep { claim.now.k ≤ 16 }
+    requires places { length claim.now.classes.now.least ≡ places_of claim.now.product.now }
+    requires base { frames.old.base ≡ from_reset claim.now.product.now claim.now.k }
+    requires step { frames.old.step ≡ after_classes claim.now.product.now claim.now.k claim.now.classes.now }
+    requires few { from.line + length from.rest.now < 2 ^ 64 }
+    ensures { IfOk result (λ r. ReadsMembers claim.now.product.now claim.now.k claim.now.classes.now (length (last_of 10 from.entry.rest.now) == 0) r (range_with_len 0 (places_of claim.now.product.now)) from.entry.line (pieces 10 from.entry.rest.now)) }
 {
-    let mut rest = bytes;
-    let mut line = first;
-    for member in 0..product.len() {
-        if classes.rep(member) == member {
+    let mut at = from;
+    for member in 0..claim.product.len() {
+        if claim.classes.rep(member) == member {
             continue;
         }
-        match check_member(
-            alloc,
-            product,
-            k,
-            classes,
-            member,
-            &mut frames.base,
-            &mut frames.step,
-            rest,
-            line,
-        )? {
-            Ok(at) => {
-                line = at.line;
-                rest = at.rest;
-            }
+        match check_member(alloc, claim, member, frames, at)? {
+            Ok(next) => at = next,
             Err(fault) => return Ok(Checked::No(fault)),
         }
     }
-    Ok(read_end(rest, line))
+    Ok(read_end(at.rest, at.line))
 }
 
 /// Reads what follows the class lines, from this line on.
@@ -152,5 +122,14 @@ pub fn read_body(
     if !pair_outputs(product, classes) {
         return Ok(no(CertKind::Outputs, 1));
     }
-    read_members(alloc, product, k, classes, bytes, first)
+    let claim = Claim {
+        product,
+        k,
+        classes,
+    };
+    let at = Cursor {
+        line: first,
+        rest: bytes,
+    };
+    read_members(alloc, &claim, at)
 }

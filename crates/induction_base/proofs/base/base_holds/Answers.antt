@@ -1,7 +1,8 @@
 use Rattle.std.proofs.Common.{◌-◌, subst}
-use Rattle.frame_unroll.specs.declared.found.Found.{Found}
-use Rattle.frame_unroll.specs.declared.found.Found.TheVariants as found
-use Rattle.frame_unroll.specs.Found.{IsFound, asks}
+use Rattle.frame_questions.specs.declared.found.Found.{Found}
+use Rattle.frame_questions.specs.declared.found.Found.TheVariants as found
+use Rattle.frame_questions.specs.Found.{IsFound}
+use Rattle.frame_unroll.specs.Unrolled.{asks}
 use Rattle.induction_base.proofs.Asking.{is_base}
 use Rattle.induction_base.proofs.base.base_holds.Goals as goal
 

@@ -1,7 +1,8 @@
 use Rattle.std.proofs.Common.{sym, subst}
-use Rattle.frame_unroll.specs.declared.found.Found.{Found}
-use Rattle.frame_unroll.specs.declared.found.Seen.{Seen}
-use Rattle.frame_unroll.specs.Found.{IsFound, IsSeen, asks}
+use Rattle.frame_questions.specs.declared.found.Found.{Found}
+use Rattle.frame_questions.specs.declared.found.Seen.{Seen}
+use Rattle.frame_questions.specs.Found.{IsFound, IsSeen}
+use Rattle.frame_unroll.specs.Unrolled.{asks}
 use Rattle.induction_base.proofs.Asking.{apart_at, hold_at}
 use Rattle.induction_base.proofs.whole_frames.ask.Goals as goal
 

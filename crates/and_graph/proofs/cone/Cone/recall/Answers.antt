@@ -3,8 +3,8 @@ use Rattle.cnf_store.specs.Clauses.{Formula}
 use Rattle.and_graph.proofs.Learning.{cone_lemma}
 use Rattle.and_graph.proofs.cone.Cone.recall.Goals as goal
 
-pub returns-in_ok-add-clause-cone : goal.returns-in_ok-add-clause-cone
-returns-in_ok-add-clause-cone c =
+pub returns-in_ok-push-clause-cone : goal.returns-in_ok-push-clause-cone
+returns-in_ok-push-clause-cone c =
     let clause = c.write.new.clause.items in
     let old : Formula = c.args.self.now.cnf in
     cone_lemma c.args.nodes.now c.args.self.now.members.items c.args.lemma.now old c.add.new.self clause c.requires.cone (ap (λ (f : Formula). f.vars) c.in_ok-add.ensures.added)

@@ -13,49 +13,49 @@ pub loop-member-preserved-then-rep-member : goal.loop-member-preserved-then-rep-
 loop-member-preserved-then-rep-member c =
     let i = c.loop-member.invariant in
     let m = c.loop-member.member in
-    let lt : m < places_of c.args.product.now = omega (arith, c.loop-member-test.true, c.len-member-end.ensures.places) in
-    let least : is_least c.args.classes.now m ≡ true = eq-eqb (least_of c.args.classes.now m) m (sym c.rep.ensures ∙ c.if-rep-member.true) in
+    let lt : m < places_of c.args.claim.now.product.now = omega (arith, c.loop-member-test.true, c.len-member-end.ensures.places) in
+    let least : is_least c.args.claim.now.classes.now m ≡ true = eq-eqb (least_of c.args.claim.now.classes.now m) m (sym c.rep.ensures ∙ c.if-rep-member.true) in
     record {
       base = i.base;
       step = i.step;
       last = i.last;
       lines = i.lines;
-      ways = λ r h. i.ways r (skipped c.args.product.now c.args.k c.args.classes.now (length (last_of 10 c.args.bytes.now) == 0) r m (places_of c.args.product.now) c.loop-member.line (pieces 10 c.loop-member.rest.now) lt least h);
+      ways = λ r h. i.ways r (skipped c.args.claim.now.product.now c.args.claim.now.k c.args.claim.now.classes.now (length (last_of 10 c.args.from.rest.now) == 0) r m (places_of c.args.claim.now.product.now) c.loop-member.at.line (pieces 10 c.loop-member.at.rest.now) lt least h);
     }
 
 pub returns-in-Err : goal.returns-in-Err
 returns-in-Err c =
     let i = c.loop-member.invariant in
     let m = c.loop-member.member in
-    let lt : m < places_of c.args.product.now = omega (arith, c.loop-member-test.true, c.len-member-end.ensures.places) in
-    let other : is_least c.args.classes.now m ≡ false = ne_eqb (least_of c.args.classes.now m) m (λ (e : least_of c.args.classes.now m ≡ m). c.if-rep-member.false (c.rep.ensures ∙ e)) in
-    let h = at_err _ c.in_ok-at.field-0 c.in-Err.fault c.in-Err.is c.in_ok-at.ensures.fault in
+    let lt : m < places_of c.args.claim.now.product.now = omega (arith, c.loop-member-test.true, c.len-member-end.ensures.places) in
+    let other : is_least c.args.claim.now.classes.now m ≡ false = ne_eqb (least_of c.args.claim.now.classes.now m) m (λ (e : least_of c.args.claim.now.classes.now m ≡ m). c.if-rep-member.false (c.rep.ensures ∙ e)) in
+    let h = at_err _ c.in_ok-next.field-0 c.in-Err.fault c.in-Err.is c.in_ok-next.ensures.fault in
     i.ways (No c.in-Err.fault)
-    (faulted c.args.product.now c.args.k c.args.classes.now (length (last_of 10 c.args.bytes.now) == 0) m (places_of c.args.product.now) c.loop-member.line c.in-Err.fault.line (pieces 10 c.loop-member.rest.now) c.in-Err.fault.kind lt other h)
+    (faulted c.args.claim.now.product.now c.args.claim.now.k c.args.claim.now.classes.now (length (last_of 10 c.args.from.rest.now) == 0) m (places_of c.args.claim.now.product.now) c.loop-member.at.line c.in-Err.fault.line (pieces 10 c.loop-member.at.rest.now) c.in-Err.fault.kind lt other h)
 
 pub loop-member-preserved : goal.loop-member-preserved
 loop-member-preserved c =
     let i = c.loop-member.invariant in
     let m = c.loop-member.member in
-    let lt : m < places_of c.args.product.now = omega (arith, c.loop-member-test.true, c.len-member-end.ensures.places) in
-    let other : is_least c.args.classes.now m ≡ false = ne_eqb (least_of c.args.classes.now m) m (λ (e : least_of c.args.classes.now m ≡ m). c.if-rep-member.false (c.rep.ensures ∙ e)) in
-    let on = at_ok _ c.in_ok-at.field-0 c.in-Ok.at c.in-Ok.is c.in_ok-at.ensures.on in
-    let lines = at_ok _ c.in_ok-at.field-0 c.in-Ok.at c.in-Ok.is c.in_ok-at.ensures.lines in
+    let lt : m < places_of c.args.claim.now.product.now = omega (arith, c.loop-member-test.true, c.len-member-end.ensures.places) in
+    let other : is_least c.args.claim.now.classes.now m ≡ false = ne_eqb (least_of c.args.claim.now.classes.now m) m (λ (e : least_of c.args.claim.now.classes.now m ≡ m). c.if-rep-member.false (c.rep.ensures ∙ e)) in
+    let on = at_ok _ c.in_ok-next.field-0 c.in-Ok.next c.in-Ok.is c.in_ok-next.ensures.on in
+    let lines = at_ok _ c.in_ok-next.field-0 c.in-Ok.next c.in-Ok.is c.in_ok-next.ensures.lines in
     let low = i.lines in
     record {
-      base = at_ok _ c.in_ok-at.field-0 c.in-Ok.at c.in-Ok.is c.in_ok-at.ensures.base ∙ i.base;
-      step = at_ok _ c.in_ok-at.field-0 c.in-Ok.at c.in-Ok.is c.in_ok-at.ensures.step ∙ i.step;
-      last = at_ok _ c.in_ok-at.field-0 c.in-Ok.at c.in-Ok.is c.in_ok-at.ensures.last ∙ i.last;
+      base = at_ok _ c.in_ok-next.field-0 c.in-Ok.next c.in-Ok.is c.in_ok-next.ensures.base ∙ i.base;
+      step = at_ok _ c.in_ok-next.field-0 c.in-Ok.next c.in-Ok.is c.in_ok-next.ensures.step ∙ i.step;
+      last = at_ok _ c.in_ok-next.field-0 c.in-Ok.next c.in-Ok.is c.in_ok-next.ensures.last ∙ i.last;
       lines = omega arith;
-      ways = λ r h. i.ways r (went_on c.args.product.now c.args.k c.args.classes.now (length (last_of 10 c.args.bytes.now) == 0) r m (places_of c.args.product.now) c.loop-member.line c.in-Ok.at.line (pieces 10 c.loop-member.rest.now) (pieces 10 c.in-Ok.at.rest.now) lt other on h);
+      ways = λ r h. i.ways r (went_on c.args.claim.now.product.now c.args.claim.now.k c.args.claim.now.classes.now (length (last_of 10 c.args.from.rest.now) == 0) r m (places_of c.args.claim.now.product.now) c.loop-member.at.line c.in-Ok.next.line (pieces 10 c.loop-member.at.rest.now) (pieces 10 c.in-Ok.next.rest.now) lt other on h);
     }
 
 pub returns : goal.returns
 returns c =
     let i = c.loop-member.invariant in
-    let past : places_of c.args.product.now ≤ c.loop-member.member = omega (arith, c.loop-member-test.false, c.len-member-end.ensures.places) in
-    let end : ReadsEnd (length (last_of 10 c.args.bytes.now) == 0) c.read_end.result c.loop-member.line (pieces 10 c.loop-member.rest.now) =
-    subst (λ (bs : List ℕ). ReadsEnd (length bs == 0) c.read_end.result c.loop-member.line (pieces 10 c.loop-member.rest.now)) i.last c.read_end.ensures in
+    let past : places_of c.args.claim.now.product.now ≤ c.loop-member.member = omega (arith, c.loop-member-test.false, c.len-member-end.ensures.places) in
+    let end : ReadsEnd (length (last_of 10 c.args.from.rest.now) == 0) c.read_end.result c.loop-member.at.line (pieces 10 c.loop-member.at.rest.now) =
+    subst (λ (bs : List ℕ). ReadsEnd (length bs == 0) c.read_end.result c.loop-member.at.line (pieces 10 c.loop-member.at.rest.now)) i.last c.read_end.ensures in
     i.ways c.read_end.result
-    (subst (λ (ps : List ℕ). ReadsMembers c.args.product.now c.args.k c.args.classes.now (length (last_of 10 c.args.bytes.now) == 0) c.read_end.result ps c.loop-member.line (pieces 10 c.loop-member.rest.now))
-    (sym (range_none c.loop-member.member (places_of c.args.product.now) past)) end)
+    (subst (λ (ps : List ℕ). ReadsMembers c.args.claim.now.product.now c.args.claim.now.k c.args.claim.now.classes.now (length (last_of 10 c.args.from.rest.now) == 0) c.read_end.result ps c.loop-member.at.line (pieces 10 c.loop-member.at.rest.now))
+    (sym (range_none c.loop-member.member (places_of c.args.claim.now.product.now) past)) end)

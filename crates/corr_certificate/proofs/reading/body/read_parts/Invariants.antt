@@ -9,10 +9,10 @@ use Rattle.corr_certificate.proofs.reading.body.read_parts.Given as goal
 
 abbrev pub invariant-loop-member : goal.invariant-loop-member
 invariant-loop-member l = record {
-  base : l.frames.base ≡ from_reset l.product l.k;
-  step : l.frames.step ≡ after_classes l.product l.k l.classes;
-  last : last_of 10 l.rest ≡ last_of 10 l.bytes;
-  lines : l.line + length l.rest ≤ l.first + length l.bytes;
-  ways : (r : Checked) → ReadsMembers l.product l.k l.classes (length (last_of 10 l.bytes) == 0) r (range_with_len l.member (places_of l.product - l.member)) l.line (pieces 10 l.rest)
-      → ReadsMembers l.product l.k l.classes (length (last_of 10 l.bytes) == 0) r (range_with_len 0 (places_of l.product)) l.first (pieces 10 l.bytes);
+  base : l.frames.base ≡ from_reset l.claim.product.now l.claim.k;
+  step : l.frames.step ≡ after_classes l.claim.product.now l.claim.k l.claim.classes.now;
+  last : last_of 10 l.at.rest.now ≡ last_of 10 l.from.rest.now;
+  lines : l.at.line + length l.at.rest.now ≤ l.from.line + length l.from.rest.now;
+  ways : (r : Checked) → ReadsMembers l.claim.product.now l.claim.k l.claim.classes.now (length (last_of 10 l.from.rest.now) == 0) r (range_with_len l.member (places_of l.claim.product.now - l.member)) l.at.line (pieces 10 l.at.rest.now)
+      → ReadsMembers l.claim.product.now l.claim.k l.claim.classes.now (length (last_of 10 l.from.rest.now) == 0) r (range_with_len 0 (places_of l.claim.product.now)) l.from.line (pieces 10 l.from.rest.now);
 }

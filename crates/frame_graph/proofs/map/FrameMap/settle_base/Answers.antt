@@ -9,19 +9,19 @@ use Rattle.frame_graph.proofs.Merges.{merged_reset, merged_twice}
 use Rattle.frame_graph.proofs.map.FrameMap.settle_base.Goals as goal
 
 pub returns-in_err-found-clause-merged : goal.returns-in_err-found-clause-merged
-returns-in_err-found-clause-merged c = merged_twice c.args.graph.now c.loop-frame.graph c.settle.new.graph c.loop-frame.invariant.merged c.settle.ensures.merged
+returns-in_err-found-clause-merged c = merged_twice c.args.graph.now c.loop-frame.graph c.settle_or_pose.new.graph c.loop-frame.invariant.merged c.settle_or_pose.ensures.merged
 
 pub returns-in-Some-clause-merged : goal.returns-in-Some-clause-merged
-returns-in-Some-clause-merged c = merged_twice c.args.graph.now c.loop-frame.graph c.settle.new.graph c.loop-frame.invariant.merged c.settle.ensures.merged
+returns-in-Some-clause-merged c = merged_twice c.args.graph.now c.loop-frame.graph c.settle_or_pose.new.graph c.loop-frame.invariant.merged c.settle_or_pose.ensures.merged
 
 pub loop-frame-preserved : goal.loop-frame-preserved
 loop-frame-preserved c =
     let was = c.loop-frame.invariant in
-    let says = c.settle.ensures in
+    let says = c.settle_or_pose.ensures in
     let lits = c.base_pair-least.result in
     record {
-      merged = merged_twice c.args.graph.now c.loop-frame.graph c.settle.new.graph was.merged says.merged;
-      map = merged_reset c.loop-frame.graph c.settle.new.graph c.args.self.now says.merged was.map;
+      merged = merged_twice c.args.graph.now c.loop-frame.graph c.settle_or_pose.new.graph was.merged says.merged;
+      map = merged_reset c.loop-frame.graph c.settle_or_pose.new.graph c.args.self.now says.merged was.map;
       holds = below_more (λ (t : ℕ). HoldsInFrame (induction_of c.args.self.now c.args.classes.now) t c.args.member) c.loop-frame.frame was.holds
           (c.base_pair-least.ensures.equal c.loop-frame.graph c.len-nodes.ensures.graph was.map
           (subst (λ (o : Option Pattern). IfNone o (AreEqual c.loop-frame.graph lits.0 lits.1)) c.in-None.is c.in_ok-found.ensures.equal));

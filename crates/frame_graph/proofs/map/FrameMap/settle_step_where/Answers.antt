@@ -1,4 +1,4 @@
-use Rattle.std.proofs.Common.{◌≡◌, ◌∷◌, [], ℕ, Bool, IfNone, Option, subst, sym}
+use Rattle.std.proofs.Common.{◌≡◌, ◌∷◌, [], ℕ, Bool, IfNone, subst, sym}
 use Rattle.std.proofs.lemmas.Result.{IfOk-weaker}
 use Rattle.circ_model.specs.Meaning.{literal_value}
 use Rattle.and_graph.specs.Graphs.{AreEqual, Obeys, product_of}

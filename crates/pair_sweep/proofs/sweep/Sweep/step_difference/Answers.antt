@@ -20,3 +20,9 @@ invariant_of-self-2 c =
     let is = sweep_reached c.self.inside.graph c.reach.new.graph c.self.inside.resets c.self.inside.steps c.reach.new.self c.self.inside.k c.self.inside.classes.now c.reach.ensures.on c.self.invariant
     c.reach.ensures.leaves c.reach.ensures.depth c.reach.ensures.map in
     sweep_merged c.reach.new.graph c.settle_step.new.graph c.self.inside.resets c.reach.new.self c.self.inside.k c.self.inside.classes.now c.settle_step.ensures.merged is
+
+pub invariant_of-self-in_err-decoded : goal.invariant_of-self-in_err-decoded
+invariant_of-self-in_err-decoded c =
+    let is = sweep_reached c.self.inside.graph c.reach.new.graph c.self.inside.resets c.self.inside.steps c.reach.new.self c.self.inside.k c.self.inside.classes.now c.reach.ensures.on c.self.invariant
+    c.reach.ensures.leaves c.reach.ensures.depth c.reach.ensures.map in
+    sweep_merged c.reach.new.graph c.settle_step.new.graph c.self.inside.resets c.reach.new.self c.self.inside.k c.self.inside.classes.now c.settle_step.ensures.merged is

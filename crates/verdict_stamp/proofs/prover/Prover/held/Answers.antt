@@ -1,14 +1,14 @@
-use Rattle.verdict_stamp.proofs.Proving.{apart_of, held_is, may_by}
+use Rattle.verdict_stamp.proofs.Proving.{apart_of, held_is}
 use Rattle.verdict_stamp.proofs.prover.Prover.held.Goals as goal
 
-pub of-requires-clause-may : goal.of-requires-clause-may
-of-requires-clause-may c =
+pub vector_under-requires-clause-may : goal.vector_under-requires-clause-may
+vector_under-requires-clause-may c =
     let v = c.self.inside.current.now in
     let is = held_is v c.self.inside.rows c.classes.result.now c.args.pair.member c.in_ok-row.field-0 c.in-Some.row c.self.invariant.2 c.classes.ensures.classes c.in-Some.is c.in_ok-row.ensures in
-    may_by v c.product-product.result.now c.k.result c.in-Some.row c.product-product.ensures.pair c.k.ensures is.may
+    is.may
 
 pub returns-in-Some : goal.returns-in-Some
 returns-in-Some c =
     let v = c.self.inside.current.now in
     let is = held_is v c.self.inside.rows c.classes.result.now c.args.pair.member c.in_ok-row.field-0 c.in-Some.row c.self.invariant.2 c.classes.ensures.classes c.in-Some.is c.in_ok-row.ensures in
-    apart_of v c.args.self.now c.args.pair.member c.of.result c.product-product.result.now c.k.result c.in-Some.row c.self.view_is c.product-product.ensures.pair c.k.ensures c.of.ensures is
+    apart_of v c.args.self.now c.args.pair.member c.vector_under.result c.in-Some.row c.self.view_is c.vector_under.ensures is.apart is.may

@@ -1,0 +1,121 @@
+//! What is known from induction over fewer frames: its pairs stay counted while the classes split.
+ghost use Rattle.std.specs.Prelude.{◌≡◌, ◌≤◌, ◌+◌, ◌<◌, ◌^◌, IfOk};
+ghost use Rattle.refine_board.specs.Schedules.{opened};
+
+use crate::boards::{Work, answer, ask, is_entry};
+use crate::circuits::{STUCK, pair_of};
+use product_machine::Product;
+use refine_board::{Board, Journal, Run};
+use std::alloc::{AllocError, Global};
+use std::marker::Brand;
+use std::sync::Wait;
+use std::sync::ledger::Blank;
+use std::test::Fail;
+use verdict_stamp::{Known, Verdict, Version, Versions, greatest_classes};
+
+// Answers an offer by what is known of its pair, or gives it back where nothing is.
+fn answer_known<'v, 'p, L: Run>(
+    rt: &impl Wait,
+    alloc: Global,
+    board: &mut Board<'v, 'p, L>,
+    known: &Known<'p>,
+    party: u32,
+) -> Result<(), AllocError>
+    requires party { party < L.workers + 1 }
+{
+    let Some(work) = ask(rt, alloc, board, party)? else {
+        return Ok(());
+    };
+    let Work {
+        offer,
+        stamp,
+        version,
+    } = work;
+    match Verdict::known(version, offer.pair(), known) {
+        Some(verdict) => {
+            board.keep(offer, &verdict, &stamp);
+        }
+        None => board.back(offer),
+    }
+    Ok(())
+}
+
+// The first party takes a pair, the second answers one by what is known; then the first splits the classes. What is open then the
+// first answers by what is known.
+fn known_turns<'v, 'p, L: Run>(
+    rt: &impl Wait,
+    alloc: Global,
+    board: &mut Board<'v, 'p, L>,
+    known: &Known<'p>,
+) -> Result<(), AllocError>
+    requires workers { 2 ≤ L.workers }
+{
+    let first = ask(rt, alloc, board, 0)?;
+    answer_known(rt, alloc, board, known, 1)?;
+    if let Some(work) = first {
+        answer(alloc, board, work)?;
+    }
+    answer_known(rt, alloc, board, known, 0)?;
+    answer_known(rt, alloc, board, known, 1)
+}
+
+fn known_journal<'v, 'p, L: Run>(
+    rt: &impl Wait,
+    alloc: Global,
+    blank: Blank,
+    versions: &'v Versions<'p>,
+    first: Version<'p>,
+    workers: u32,
+    known: &Known<'p>,
+) -> Result<Journal, AllocError>
+    requires name { (blank.name ≡ L.name) × (blank.parts ≡ L.parts) }
+    requires parts { 2 ^ 62 ≤ L.parts }
+    requires run { (first.pair ≡ L.pair) × (first.k ≡ L.k) }
+    requires workers { (workers ≡ L.workers) × (2 ≤ L.workers) }
+    requires opening { L.opening ≡ opened L.pair L.workers first.classes first.number }
+    requires list { L.list ≡ versions.now }
+{
+    let mut board = Board::<'v, 'p, L>::open(alloc, blank, versions, first, workers)?;
+    let played = known_turns(rt, alloc, &mut board, known);
+    let (_, journal) = board.close();
+    played?;
+    Ok(journal)
+}
+
+// Whether the pair of the constant and the left latch, which is known from one frame, stays counted on a board for two frames
+// when the input is split off.
+fn stays_counted(rt: &impl Wait, alloc: Global, product: &Product) -> Result<bool, AllocError> {
+    let greatest = greatest_classes(alloc, product, 1)?;
+    let known = Known::of(alloc, greatest.product(), greatest.k(), greatest.classes())?;
+    let first = Version::first(alloc, product, 2)?;
+    let versions = Versions::new(alloc)?;
+    let journal = known_journal::<Brand>(
+        rt,
+        alloc,
+        Blank::new(1 << 62),
+        &versions,
+        first,
+        2,
+        &known,
+    )?;
+    Ok(
+        journal.len() == 7
+            && is_entry(&journal, 0, 0, 0, "offered", [0, 1])
+            && is_entry(&journal, 1, 1, 0, "offered", [0, 2])
+            && is_entry(&journal, 2, 1, 1, "counted", [0, 2])
+            && is_entry(&journal, 3, 0, 1, "split", [0, 1])
+            && is_entry(&journal, 4, 0, 2, "offered", [0, 3])
+            && is_entry(&journal, 5, 0, 3, "counted", [0, 3])
+            && is_entry(&journal, 6, 1, 2, "done", [0, 0]),
+    )
+}
+
+#[test]
+fn a_known_pair_stays_counted_when_the_classes_split(rt: HostRuntime) -> Result<(), Fail> {
+    let alloc = rt.alloc();
+    match pair_of(alloc, STUCK, STUCK) {
+        Ok(product) => assert!(rt; stays_counted(&rt, alloc, &product)?),
+        Err(_) => assert!(rt; false),
+    }
+    Ok(())
+}

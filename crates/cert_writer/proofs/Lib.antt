@@ -1,0 +1,13 @@
+pub mod Unseen
+pub mod Adding
+pub mod NamesAgain
+pub mod HeadAgain
+pub mod PartsAgain
+pub mod JoinAgain
+pub mod LinesAgain
+pub mod WholeAgain
+pub mod Counting
+pub mod Renumbering
+pub mod Marking
+pub mod Ranks
+pub mod Kept

@@ -1,0 +1,408 @@
+//! Writing a certificate: the classes, and for each needed pair the logs of its two questions, which are solved again. The
+//! frames are made once, and lent to each question; the logs are trimmed. A log of the last frame is made of what lower places
+//! have derived, and checked; where it isn't accepted the question is asked on its own.
+ghost use Rattle.std.specs.Prelude.{◌≡◌, ◌<◌, ◌≤◌, ◌/◌, ◌-◌, ◌++◌, ◌∷◌, ℕ, List, IfOk, IfSome, OnOk, None, codes, decimal, length};
+ghost use Rattle.std.specs.List.{All};
+ghost use Rattle.circ_model.specs.Correspondence.{IsLiteral};
+ghost use Rattle.circ_model.specs.Meaning.{places_of};
+ghost use Rattle.class_partition.specs.Classes.{ArePartition, IsNeeded, IsStable, least_of, needed};
+ghost use Rattle.frame_unroll.specs.Unrolled.{clauses_of, formula_of, from_reset, after_classes, asks, asking};
+ghost use Rattle.product_machine.specs.Signals.{signal_at};
+ghost use Rattle.sat_log.specs.Derivations.{IsAccepted, Line};
+ghost use Rattle.sat_log.specs.Lines.{AreLines};
+ghost use Rattle.sat_log.specs.Texts.{HasText, log_text};
+ghost use Rattle.class_text.specs.ClassLines.{name_of};
+ghost use Rattle.corr_certificate.specs.Certificate.{IsSupported, PairOutputs};
+ghost use Rattle.corr_certificate.specs.Parts.{base_formula, step_formula};
+ghost use Rattle.cert_writer.specs.Trimming.{IsTrimmed};
+ghost use Rattle.cert_writer.specs.Writing.{head_text, tie_text, AreProved, AddsMember, AddsMembers, IsCertificate};
+
+use crate::lemmas::Lemmas;
+use crate::trimming::trimmed;
+use circ_model::{Lit, Signal};
+use class_partition::Classes;
+use class_text::{push_class_lines, push_name};
+use frame_questions::{Found, Prepared, Workspace};
+use frame_unroll::Unrolled;
+use itoa::Buffer;
+use log_check::check;
+use product_machine::Product;
+use sat_log::{Log, write_log};
+use std::alloc::{AllocError, Global};
+use std::marker::Model;
+
+// Adds a number after a word.
+fn push_field(word: &[u8], number: u32, text: &mut Vec<u8>) -> Result<(), AllocError>
+    ensures { OnOk result (text.new.items ≡ text.old.items ++ (word.now ++ decimal number)) }
+{
+    let mut buffer = Buffer::new();
+    text.extend_from_slice(word)?;
+    text.extend_from_slice(buffer.format(number).as_bytes())?;
+    Ok(())
+}
+
+// Adds whether the free latches are tied, and the end of line 1.
+fn push_tie(tied: bool, text: &mut Vec<u8>) -> Result<(), AllocError>
+    ensures { OnOk result (text.new.items ≡ text.old.items ++ tie_text tied) }
+{
+    if tied {
+        text.extend_from_slice(b" tie=1\n")?;
+    } else {
+        text.extend_from_slice(b" tie=0\n")?;
+    }
+    Ok(())
+}
+
+// Adds line 1.
+fn push_head(product: &Product, k: u32, text: &mut Vec<u8>) -> Result<(), AllocError>
+    ensures { OnOk result (text.new.items ≡ text.old.items ++ head_text product.now k) }
+{
+    push_field(b"seccert 2 k=", k, text)?;
+    push_field(b" signals=", product.len(), text)?;
+    push_tie(product.is_tied(), text)?;
+    Ok(())
+}
+
+// The literals of a place and its class's least place, at their relative phase.
+fn literals_of(classes: &Classes, place: u32) -> (Lit, Lit)
+    requires place { place < length classes.now.least }
+    requires few { length classes.now.least < 2147483648 }
+    ensures { result ≡ needed classes.now place }
+{
+    let _places = classes.len();
+    let rep = classes.rep(place);
+    let sign = if classes.phase(rep) {
+        !classes.phase(place)
+    } else {
+        classes.phase(place)
+    };
+    (Lit::of(rep, false), Lit::of(place, sign))
+}
+
+// What is certified, with the frames of the two questions: k from reset, and k + 1 in all but the last of which the classes
+// hold. Beside them the numbers of clauses that they have with a question.
+#[derive(Drop)]
+struct Frames<'p> {
+    product: &'p Product,
+    k: u32,
+    classes: &'p Classes,
+    base: Prepared<'p>,
+    step: Prepared<'p>,
+    base_clauses: u64,
+    step_clauses: u64,
+}
+
+impl<'p> Model for Frames<'p> {
+    ghost use Rattle.cert_writer.specs.Writing.{AreFrames, Certified};
+
+    ghost Value = { Certified };
+
+    ghost view = { λ f. record { pair = f.product.now; k = f.k; classes = f.classes.now } };
+
+    ghost invariant = { λ f. AreFrames f.product.now f.k f.classes.now f.base f.step f.base_clauses f.step_clauses };
+}
+
+// The memory in which their questions are asked, what is derived in the last frame, and the frames that a log is checked over.
+#[derive(Drop)]
+struct Workspaces<'p> {
+    base: Workspace,
+    step: Workspace,
+    lemmas: Lemmas,
+    asked: Unrolled<'p>,
+}
+
+// How many clauses frames have with a question over some of them, whichever its literals are.
+fn clauses_asked(
+    alloc: Global,
+    frames: &mut Unrolled<'_>,
+    first: u32,
+    last: u32,
+) -> Result<u64, AllocError>
+    requires none { frames.old.asked ≡ None }
+    requires order { first ≤ last }
+    requires within { last < frames.old.frames }
+    ensures count { IfOk result (λ n. (a b : ℕ) → n ≡ length (clauses_of (asking frames.old (asks a b first last)))) }
+    ensures frames { IfOk result (λ n. frames.new ≡ frames.old) }
+{
+    let constant = Lit::of(0, false);
+    frames.ask(alloc, constant, constant, first, last)?;
+    let count = frames.cnf().len();
+    frames.drop_question();
+    Ok(count)
+}
+
+// Makes the frames.
+fn frames_of<'p>(
+    alloc: Global,
+    product: &'p Product,
+    k: u32,
+    classes: &'p Classes,
+) -> Result<Frames<'p>, AllocError>
+    requires proved { AreProved product.now k classes.now }
+    requires places { length classes.now.least ≡ places_of product.now }
+    ensures { IfOk result (λ frames. frames ≡ record { pair = product.entry.now; k = k; classes = classes.entry.now }) }
+{
+    let mut base = Unrolled::reset_frames(alloc, product, k)?;
+    let base_clauses = clauses_asked(alloc, &mut base, 0, k - 1)?;
+    let mut step = Unrolled::step_frames(alloc, product, k, classes)?;
+    let step_clauses = clauses_asked(alloc, &mut step, k, k)?;
+    Ok(Frames {
+        product,
+        k,
+        classes,
+        base: Prepared::new(alloc, base)?,
+        step: Prepared::new(alloc, step)?,
+        base_clauses,
+        step_clauses,
+    })
+}
+
+// The memory for their questions.
+fn workspaces_of<'p>(
+    alloc: Global,
+    product: &'p Product,
+    k: u32,
+    classes: &Classes,
+) -> Result<Workspaces<'p>, AllocError>
+    requires few { k ≤ 16 }
+    requires places { length classes.now.least ≡ places_of product.now }
+    ensures { IfOk result (λ work. work.asked ≡ after_classes product.entry.now k classes.now) }
+{
+    let asked = Unrolled::step_frames(alloc, product, k, classes)?;
+    let base = k.saturating_mul(product.len());
+    let lemmas = Lemmas::new(alloc, asked.cnf(), product.len(), base)?;
+    Ok(Workspaces {
+        base: Workspace::new(),
+        step: Workspace::new(),
+        lemmas,
+        asked,
+    })
+}
+
+// The log, trimmed, that no run has a place and its class's least place apart in its first k frames.
+fn base_log(
+    alloc: Global,
+    work: &mut Workspace,
+    frames: &Frames<'_>,
+    place: u32,
+) -> Result<Log, AllocError>
+    requires place { place < places_of frames.now.pair }
+    ensures accepted { IfOk result (IsAccepted (base_formula frames.now.pair frames.now.k frames.now.classes place)) }
+    ensures trimmed { IfOk result (IsTrimmed (length (base_formula frames.now.pair frames.now.k frames.now.classes place).clauses)) }
+{
+    let _places = frames.product.len();
+    let (a, b) = literals_of(frames.classes, place);
+    let k = frames.k;
+    match frames.base.find_in(alloc, work, a, b, 0, k - 1)? {
+        Found::None(log) => trimmed(alloc, frames.base_clauses, &log),
+        Found::Path(_seen) => unreachable!(),
+    }
+}
+
+// The log, trimmed, that no path has them apart after k frames in which the classes hold.
+fn step_log(
+    alloc: Global,
+    work: &mut Workspace,
+    frames: &Frames<'_>,
+    place: u32,
+) -> Result<Log, AllocError>
+    requires place { place < places_of frames.now.pair }
+    ensures accepted { IfOk result (IsAccepted (step_formula frames.now.pair frames.now.k frames.now.classes place)) }
+    ensures trimmed { IfOk result (IsTrimmed (length (step_formula frames.now.pair frames.now.k frames.now.classes place).clauses)) }
+{
+    let _places = frames.product.len();
+    let (a, b) = literals_of(frames.classes, place);
+    let k = frames.k;
+    match frames.step.find_in(alloc, work, a, b, k, k)? {
+        Found::None(log) => trimmed(alloc, frames.step_clauses, &log),
+        Found::Path(_seen) => unreachable!(),
+    }
+}
+
+// A log that may be one of a question in frame t, where it is accepted.
+fn accepted_in(
+    alloc: Global,
+    frames: &mut Unrolled<'_>,
+    a: Lit,
+    b: Lit,
+    t: u32,
+    log: Option<Log>,
+) -> Result<Option<Log>, AllocError>
+    requires none { frames.old.asked ≡ None }
+    requires left { IsLiteral frames.old.pair a }
+    requires right { IsLiteral frames.old.pair b }
+    requires within { t < frames.old.frames }
+    ensures log { IfOk result (λ o. IfSome o (IsAccepted (formula_of (asking frames.old (asks a b t t))))) }
+    ensures frames { IfOk result (λ o. frames.new ≡ frames.old) }
+{
+    let Some(log) = log else {
+        return Ok(None);
+    };
+    frames.ask(alloc, a, b, t, t)?;
+    let good = check(alloc, frames.cnf(), &log)?;
+    frames.drop_question();
+    if good { Ok(Some(log)) } else { Ok(None) }
+}
+
+// The log by what lower places have derived, where it is accepted.
+fn derived_log(
+    alloc: Global,
+    work: &mut Workspaces<'_>,
+    frames: &Frames<'_>,
+    place: u32,
+    a: Lit,
+    b: Lit,
+) -> Result<Option<Log>, AllocError>
+    requires none { work.old.asked.asked ≡ None }
+    requires left { IsLiteral work.old.asked.pair a }
+    requires right { IsLiteral work.old.asked.pair b }
+    requires within { frames.now.k < work.old.asked.frames }
+    ensures log { IfOk result (λ o. IfSome o (IsAccepted (formula_of (asking work.old.asked (asks a b frames.now.k frames.now.k))))) }
+    ensures asked { IfOk result (λ o. work.new.asked ≡ work.old.asked) }
+{
+    let cells = frames.product.cells();
+    work.lemmas.derive(alloc, cells, frames.classes, place)?;
+    let log = work.lemmas.log_of(alloc, frames.classes, place)?;
+    accepted_in(alloc, &mut work.asked, a, b, frames.k, log)
+}
+
+// The log of the last frame, by what lower places have derived or on its own.
+fn last_log(
+    alloc: Global,
+    work: &mut Workspaces<'_>,
+    frames: &Frames<'_>,
+    place: u32,
+) -> Result<Log, AllocError>
+    requires asked { work.old.asked ≡ after_classes frames.now.pair frames.now.k frames.now.classes }
+    requires place { place < places_of frames.now.pair }
+    ensures accepted { IfOk result (IsAccepted (step_formula frames.now.pair frames.now.k frames.now.classes place)) }
+    ensures trimmed { IfOk result (IsTrimmed (length (step_formula frames.now.pair frames.now.k frames.now.classes place).clauses)) }
+    ensures asked { IfOk result (λ log. work.new.asked ≡ work.old.asked) }
+{
+    let _places = frames.product.len();
+    let (a, b) = literals_of(frames.classes, place);
+    match derived_log(alloc, work, frames, place, a, b)? {
+        Some(log) => trimmed(alloc, frames.step_clauses, &log),
+        None => step_log(alloc, &mut work.step, frames, place),
+    }
+}
+
+// Adds a line with a name after a keyword, and a log.
+fn push_part(
+    keyword: &[u8],
+    signal: Signal,
+    log: &Log,
+    text: &mut Vec<u8>,
+) -> Result<(), AllocError>
+    ensures text { OnOk result (text.new.items ≡ text.old.items ++ (keyword.now ++ (name_of signal ++ 10 ∷ log_text log.now))) }
+    ensures lines { OnOk result (AreLines log.now) }
+    ensures hints { OnOk result (All HasText log.now) }
+{
+    text.extend_from_slice(keyword)?;
+    push_name(signal, text)?;
+    text.push(b'\n')?;
+    write_log(log, text)?;
+    Ok(())
+}
+
+// Adds the two parts of a place.
+fn push_member(
+    alloc: Global,
+    work: &mut Workspaces<'_>,
+    frames: &Frames<'_>,
+    place: u32,
+    text: &mut Vec<u8>,
+) -> Result<(), AllocError>
+    requires asked { work.old.asked ≡ after_classes frames.now.pair frames.now.k frames.now.classes }
+    requires place { place < places_of frames.now.pair }
+    ensures added { OnOk result (AddsMember frames.now.pair frames.now.k frames.now.classes place text.old.items text.new.items) }
+    ensures asked { OnOk result (work.new.asked ≡ work.old.asked) }
+{
+    let signal = frames.product.signal(place);
+    let base = base_log(alloc, &mut work.base, frames, place)?;
+    let pushed = push_part(b"base ", signal, &base, text);
+    drop(base);
+    pushed?;
+    let step = last_log(alloc, work, frames, place)?;
+    let pushed = push_part(b"step ", signal, &step, text);
+    drop(step);
+    pushed
+}
+
+// Adds the parts of all places that aren't the least of their class, and the end.
+fn push_members(
+    alloc: Global,
+    work: &mut Workspaces<'_>,
+    frames: &Frames<'_>,
+    text: &mut Vec<u8>,
+) -> Result<(), AllocError>
+    requires asked { work.old.asked ≡ after_classes frames.now.pair frames.now.k frames.now.classes }
+    ensures { OnOk result (AddsMembers frames.now.pair frames.now.k frames.now.classes text.old.items text.new.items) }
+{
+    for place in 0..frames.product.len() {
+        if frames.classes.rep(place) != place {
+            push_member(alloc, work, frames, place, text)?;
+        }
+    }
+    text.extend_from_slice(b"end\n")?;
+    Ok(())
+}
+
+// The text, of which the contract tells what stands in it.
+fn text_of(
+    alloc: Global,
+    product: &Product,
+    k: u32,
+    classes: &Classes,
+) -> Result<Vec<u8>, AllocError>
+    requires proved { AreProved product.now k classes.now }
+    ensures { IfOk result (λ text. IsCertificate product.now k classes.now text.items) }
+{
+    let mut text = Vec::new(alloc);
+    push_head(product, k, &mut text)?;
+    push_class_lines(alloc, product, classes, &mut text)?;
+    push_parts(alloc, product, k, classes, &mut text)?;
+    Ok(text)
+}
+
+// Adds the parts of all places, over frames and in memory of their own.
+fn push_parts(
+    alloc: Global,
+    product: &Product,
+    k: u32,
+    classes: &Classes,
+    text: &mut Vec<u8>,
+) -> Result<(), AllocError>
+    requires proved { AreProved product.now k classes.now }
+    ensures { OnOk result (AddsMembers product.now k classes.now text.old.items text.new.items) }
+{
+    let _places = classes.len();
+    let frames = frames_of(alloc, product, k, classes)?;
+    let mut work = workspaces_of(alloc, product, k, classes)?;
+    let pushed = push_members(alloc, &mut work, &frames, text);
+    drop(work);
+    drop(frames);
+    pushed
+}
+
+/// The certificate of classes that are a correspondence for k and pair all outputs: it supports the pair, so reading it finds
+/// no fault. Each log in it is trimmed. It errs for want of memory alone.
+pub fn write_cert(
+    alloc: Global,
+    product: &Product,
+    k: u32,
+    classes: &Classes,
+) -> Result<Vec<u8>, AllocError>
+    requires some { 0 < k }
+    requires few { k ≤ 16 }
+    requires places { length classes.now.least ≡ places_of product.now }
+    requires stable { IsStable product.now k classes.now }
+    requires outputs { PairOutputs product.now classes.now }
+    ensures text { IfOk result (λ text. IsCertificate product.now k classes.now text.items) }
+    ensures supported { IfOk result (λ text. IsSupported product.now text.items) }
+{
+    let _cells = product.cells();
+    let _places = classes.len();
+    let text = text_of(alloc, product, k, classes)?;
+    Ok(text)
+}
