@@ -214,7 +214,7 @@ def checked(program, left, right, options):
 
 def questions(program, left, right):
     """How often the search for the least run asks the solver."""
-    orders = ["set pagination off", "set confirm off", "break frame_unroll::found::Prepared::find_under", "ignore 1 1000000", "run", "info breakpoints"]
+    orders = ["set pagination off", "set confirm off", "break frame_questions::found::Prepared::find_under", "ignore 1 1000000", "run", "info breakpoints"]
     words = ["gdb", "-q", "-batch"] + [word for order in orders for word in ("-ex", order)]
     words += ["--args", program, "check", left, right, "-d", "64", "--least"]
     seen = subprocess.run(words, capture_output=True, text=True).stdout
