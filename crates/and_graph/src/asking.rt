@@ -4,20 +4,21 @@
 //! equal literals are equal for a reason near by (Kuehlmann and Krohm, DAC 1997). Where that doesn't settle it, the cone is. A
 //! question over a large cone may be put aside: it is solved without the graph, which others change meanwhile, and its answer is
 //! taken in once what it rests on is found to stand.
-ghost use Rattle.std.specs.Prelude.{◌≡◌, ◌<◌, ◌/◌, IfOk, IfNone, IfSome, length};
+ghost use Rattle.std.specs.Prelude.{◌≡◌, ◌<◌, ◌/◌, IfErr, IfOk, IfNone, IfSome, IsTrue, None, OnErr, OnOk, Some, false, is_some, length, true};
+ghost use Rattle.and_graph.specs.Askers.{IsHalted, IsTaken, solved};
 ghost use Rattle.and_graph.specs.Graphs.{AreEqual, IsGraph};
 ghost use Rattle.and_graph.specs.Lemmas.{AreLemmas};
 
 use crate::canonical::canonical_of;
 use crate::cone::Cone;
+use crate::cone_solver::ConeSolver;
 use crate::halt::Halt;
 use crate::lemmas::Lemmas;
 use crate::node::Node;
 use crate::pattern::{Pattern, pattern_of};
 use crate::posed::{Found, Posed};
 use circ_model::Lit;
-use cnf_store::Cnf;
-use sat_core::{Answer, Ready, Workspace};
+use sat_core::Answer;
 use std::alloc::{AllocError, Global};
 use std::marker::Model;
 
@@ -25,15 +26,14 @@ use std::marker::Model;
 const WINDOW: u32 = 50;
 
 /// Memory that questions share, of any graphs: each costs what its cone does. What was asked before changes no answer's meaning.
-/// Contracts see how many nodes the cone of a question has at most that isn't put aside.
+/// Contracts see which questions may be put aside, what is, and whether that is solved.
 #[derive(Drop)]
 pub struct Asker {
     cone: Cone,
     clause: Vec<i32>,
-    // a question has no clauses but its own
-    nothing: Ready,
-    work: Workspace,
-    most: u32,
+    solver: ConeSolver,
+    // a question over a cone of more nodes may be put aside
+    most: Option<u32>,
     // what is put aside, of the cone; and its answer, once there is one
     posed: Option<Posed>,
     answer: Option<Answer>,
@@ -41,32 +41,40 @@ pub struct Asker {
 }
 
 impl Model for Asker {
-    ghost use Rattle.std.specs.Prelude.{◌≡◌, [], ℕ, IfSome};
+    ghost use Rattle.std.specs.Prelude.{◌≡◌, [], IfSome, is_some, length, option_map, true};
     ghost use Rattle.sat_core.specs.Answers.{IsAnswer};
+    ghost use Rattle.and_graph.specs.Askers.{Asking};
 
-    ghost Value = { ℕ };
+    ghost Value = { Asking };
 
-    ghost view = { λ a. a.most };
+    ghost view = { λ a. record { most = a.most; aside = option_map (λ _. length a.cone.members.items) a.posed; solved = is_some a.answer } };
 
-    ghost invariant = { λ a. (a.nothing ≡ record { vars = 0; clauses = [] }) × IfSome a.answer (IsAnswer a.cone.cnf) };
+    ghost invariant = { λ a. IfSome a.answer (IsAnswer a.cone.cnf) × (is_some a.answer ≡ true → is_some a.posed ≡ true) };
 }
 
 impl Asker {
     /// Nothing was asked yet. It answers each question at once.
-    pub fn new(alloc: Global) -> Result<Asker, AllocError> {
-        Asker::posing(alloc, u32::MAX)
+    pub fn new(alloc: Global) -> Result<Asker, AllocError>
+        ensures { IfOk result (λ a. a ≡ record { most = None; aside = None; solved = false }) }
+    {
+        Asker::putting_aside(alloc, None)
     }
 
-    /// The same, but for questions over cones of more nodes than so many: where such a one may be put aside, it is.
+    /// Nothing was asked yet. A question over a cone of more nodes than so many is put aside, where it may be.
     pub fn posing(alloc: Global, most: u32) -> Result<Asker, AllocError>
-        ensures { IfOk result (λ a. a ≡ most) }
+        ensures { IfOk result (λ a. a ≡ record { most = Some most; aside = None; solved = false }) }
     {
-        let none = Cnf::new(alloc, 0)?;
+        Asker::putting_aside(alloc, Some(most))
+    }
+
+    // Nothing was asked yet.
+    fn putting_aside(alloc: Global, most: Option<u32>) -> Result<Asker, AllocError>
+        ensures { IfOk result (λ a. a ≡ record { most = most; aside = None; solved = false }) }
+    {
         Ok(Asker {
             cone: Cone::new(alloc)?,
             clause: Vec::new(alloc),
-            nothing: Ready::new(alloc, &none)?,
-            work: Workspace::new(),
+            solver: ConeSolver::new(alloc)?,
             most,
             posed: None,
             answer: None,
@@ -74,19 +82,21 @@ impl Asker {
         })
     }
 
-    /// Whether the question that is put aside rests on a node.
-    pub fn rests_on(&self, n: u32) -> bool {
+    /// Whether a question is put aside that rests on a node.
+    pub fn rests_on(&self, n: u32) -> bool
+        ensures { IsTrue result → is_some self.now.aside ≡ true }
+    {
         let j = self.cone.frontier.number_of(n) as usize;
         self.posed.is_some() && j < self.cone.members.len() && self.cone.members[j] == n
     }
 
     /// Solves the question that is put aside, if there is one. It errs for want of memory alone.
-    pub fn solve(&mut self, alloc: Global) -> Result<(), AllocError> {
+    pub fn solve(&mut self, alloc: Global) -> Result<(), AllocError>
+        ensures solved { OnOk result (self.new ≡ solved self.old) }
+        ensures unsolved { OnErr result (self.new ≡ self.old) }
+    {
         if self.posed.is_some() {
-            let _vars = self.cone.cnf.vars();
-            let answer = self
-                .nothing
-                .solve_in(alloc, &mut self.work, &self.cone.cnf)?;
+            let answer = self.solver.decide(alloc, &self.cone)?;
             self.answer = Some(answer);
         }
         Ok(())
@@ -108,12 +118,16 @@ impl Asker {
         requires lemmas { AreLemmas nodes.now lemmas.old.clauses }
         ensures lemmas { AreLemmas nodes.now lemmas.new.clauses }
         ensures equal { IfOk result (λ found. IfNone found (AreEqual nodes.now x y)) }
+        ensures most { self.new.most ≡ self.old.most }
     {
         self.posed = None;
         self.answer = None;
         let cone = &mut self.cone;
         let given = cone.pose(nodes, lemmas, x, y, most, &mut self.clause)?;
-        let answer = self.nothing.solve_in(alloc, &mut self.work, &cone.cnf)?;
+        let is_whole = most == u32::MAX;
+        let answer = self
+            .solver
+            .decide_on(alloc, cone, is_whole, &mut lemmas.activity)?;
         cone.take(alloc, nodes, lemmas, Posed { x, y, given }, &answer)
     }
 
@@ -132,16 +146,24 @@ impl Asker {
         requires lemmas { AreLemmas nodes.now lemmas.old.clauses }
         ensures lemmas { AreLemmas nodes.now lemmas.new.clauses }
         ensures equal { IfOk result (λ found. IfNone found (AreEqual nodes.now x y)) }
+        ensures most { self.new.most ≡ self.old.most }
+        ensures halt { IfErr result (IsHalted self.old self.new) }
     {
         self.posed = None;
         self.answer = None; // it was another cone's
         let cone = &mut self.cone;
         let given = cone.pose(nodes, lemmas, x, y, u32::MAX, &mut self.clause)?;
-        if cone.members.len() > self.most as usize {
-            self.posed = Some(Posed { x, y, given });
-            return Err(Halt::Posed);
+        if let Some(most) = self.most {
+            if cone.members.len() > most as usize {
+                self.solver
+                    .begin_with(&lemmas.activity, cone.members.as_slice())?;
+                self.posed = Some(Posed { x, y, given });
+                return Err(Halt::Posed);
+            }
         }
-        let answer = self.nothing.solve_in(alloc, &mut self.work, &cone.cnf)?;
+        let answer = self
+            .solver
+            .decide_on(alloc, cone, true, &mut lemmas.activity)?;
         let found = cone.take(alloc, nodes, lemmas, Posed { x, y, given }, &answer)?;
         if let Some(pattern) = &found {
             self.found = Some(Found::of(alloc, x, y, pattern)?);
@@ -172,6 +194,7 @@ impl Asker {
         requires lemmas { AreLemmas nodes.now lemmas.old.clauses }
         ensures lemmas { AreLemmas nodes.now lemmas.new.clauses }
         ensures equal { IfOk result (λ found. IfNone found (AreEqual nodes.now a b)) }
+        ensures most { self.new.most ≡ self.old.most }
     {
         let x = canonical_of(nodes, a);
         let y = canonical_of(nodes, b);
@@ -197,6 +220,8 @@ impl Asker {
         requires lemmas { AreLemmas nodes.now lemmas.old.clauses }
         ensures lemmas { AreLemmas nodes.now lemmas.new.clauses }
         ensures equal { IfOk result (λ found. IfNone found (AreEqual nodes.now a b)) }
+        ensures most { self.new.most ≡ self.old.most }
+        ensures halt { IfErr result (IsHalted self.old self.new) }
     {
         let x = canonical_of(nodes, a);
         let y = canonical_of(nodes, b);
@@ -224,6 +249,7 @@ impl Asker {
         ensures left { IfOk result (λ r. IfSome r (λ s. s.0 / 2 < length nodes.now)) }
         ensures right { IfOk result (λ r. IfSome r (λ s. s.1 / 2 < length nodes.now)) }
         ensures equal { IfOk result (λ r. IfSome r (λ s. AreEqual nodes.now s.0 s.1)) }
+        ensures taken { OnOk result (IsTaken self.old self.new) }
     {
         let Some(answer) = self.answer.take() else {
             return Ok(None);
@@ -233,6 +259,8 @@ impl Asker {
         };
         let Posed { x, y, given } = posed;
         let cone = &self.cone;
+        self.solver
+            .leave(&mut lemmas.activity, cone.members.as_slice())?;
         match &answer {
             Answer::Sat(row) => {
                 let pattern = pattern_of(alloc, nodes, &cone.members, row)?;
@@ -241,7 +269,7 @@ impl Asker {
             }
             Answer::Unsat(log) => {
                 if !cone.stands(nodes, lemmas, x, y, given) {
-                    self.most = u32::MAX;
+                    self.most = None;
                     return Ok(None);
                 }
                 lemmas.learn(alloc, nodes, &cone.members, &cone.cnf, given, log)?;

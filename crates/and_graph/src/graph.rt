@@ -1,5 +1,6 @@
 //! The graph.
-ghost use Rattle.std.specs.Prelude.{◌≡◌, ◌<◌, ◌≤◌, ◌/◌, ◌+◌, ◌^◌, ℕ, Bool, false, IsTrue, IfNone, IfOk, OnOk, OnErr, length};
+ghost use Rattle.std.specs.Prelude.{◌≡◌, ◌<◌, ◌≤◌, ◌/◌, ◌+◌, ◌^◌, ℕ, Bool, false, IsTrue, IfErr, IfNone, IfOk, OnOk, OnErr, length};
+ghost use Rattle.and_graph.specs.Askers.{IsHalted, IsTaken};
 ghost use Rattle.circ_model.specs.Meaning.{literal, literal_value};
 ghost use Rattle.and_graph.specs.Graphs.{AreEqual, GrowsTo, IsGraph, IsLeaf, Obeys, node_at, product_of};
 
@@ -204,6 +205,7 @@ impl Graph {
         requires right { b / 2 < length self.old }
         ensures kept { self.new ≡ self.old }
         ensures equal { IfOk result (λ found. IfNone found (AreEqual self.old a b)) }
+        ensures most { asker.new.most ≡ asker.old.most }
     {
         asker.difference(alloc, self.nodes.as_slice(), &mut self.lemmas, a, b)
     }
@@ -221,6 +223,8 @@ impl Graph {
         requires right { b / 2 < length self.old }
         ensures kept { self.new ≡ self.old }
         ensures equal { IfOk result (λ found. IfNone found (AreEqual self.old a b)) }
+        ensures most { asker.new.most ≡ asker.old.most }
+        ensures halt { IfErr result (IsHalted asker.old asker.new) }
     {
         asker.difference_or_pose(alloc, self.nodes.as_slice(), &mut self.lemmas, a, b)
     }
@@ -231,6 +235,7 @@ impl Graph {
         ensures size { length self.new ≡ length self.old }
         ensures operands { (p : ℕ) → ((node_at self.new p).left ≡ (node_at self.old p).left) × ((node_at self.new p).right ≡ (node_at self.old p).right) }
         ensures valuations { (v : ℕ → Bool) → (Obeys self.old v → Obeys self.new v) × (Obeys self.new v → Obeys self.old v) }
+        ensures taken { OnOk result (IsTaken asker.old asker.new) }
     {
         let found = asker.take_answer(alloc, self.nodes.as_slice(), &mut self.lemmas)?;
         if let Some(same) = found {

@@ -1,4 +1,7 @@
 //! Why a question has no answer yet.
+ghost use Rattle.std.specs.Prelude.{◌≡◌};
+ghost use Rattle.and_graph.specs.declared.halt.Halt.TheVariants.{Memory};
+
 use std::alloc::AllocError;
 
 /// Why a question that may be put aside has no answer.
@@ -11,6 +14,8 @@ pub enum Halt {
 }
 
 impl From<AllocError> for Halt {
+    ghost from_gives = { λ _ e. e ≡ Memory };
+
     fn from(_error: AllocError) -> Halt {
         Halt::Memory
     }

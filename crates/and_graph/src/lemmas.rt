@@ -9,6 +9,7 @@ ghost use Rattle.sat_log.specs.Derivations.{AllFollow, line_at};
 ghost use Rattle.and_graph.specs.Cones.{AreWithin, Shows};
 ghost use Rattle.and_graph.specs.Lemmas.{AreLemmas, ArePureHints, ClauseHolds, GivenHold, IsPureHint, PureHold};
 
+use crate::activity::Activity;
 use crate::node::Node;
 use circ_model::Lit;
 use cnf_store::{Arena, Cnf};
@@ -32,6 +33,8 @@ pub(crate) struct Lemmas {
     last: Vec<u32>,
     before: Vec<u32>,
     row: Vec<Lit>,
+    // what questions left of the nodes beside
+    pub activity: Activity,
 }
 
 // The node's literal for which a literal of a member stands.
@@ -96,6 +99,7 @@ impl Lemmas {
             last: Vec::new(alloc),
             before: Vec::new(alloc),
             row: Vec::new(alloc),
+            activity: Activity::new(alloc),
         }
     }
 

@@ -7,10 +7,12 @@
 //! alone, so it holds for ever. Nothing here knows what the graph is made from.
 #![tactic(auto)]
 
+mod activity;
 mod asking;
 mod canonical;
 mod clauses;
 mod cone;
+mod cone_solver;
 mod frontier;
 mod graph;
 mod halt;

@@ -95,6 +95,7 @@ impl<'p> FrameMap<'p> {
         requires owed { AllOwed self.now owed.now }
         ensures later { IsLater graph.old graph.new }
         ensures passes { IfOk result (λ found. IfNone found (StepPasses (induction_of self.now classes.now) member)) }
+        ensures most { asker.new.most ≡ asker.old.most }
     {
         let (least, other) = self.step_pair(classes, member);
         let assumed = self.assume(graph, owed)?;

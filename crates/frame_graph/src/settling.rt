@@ -1,6 +1,7 @@
 //! Whether needed pairs pass, asked of the solver where hashing doesn't tell. What is found equal is merged into the graph, for
 //! ever and for each map over it: so a later pair costs less. (SAT sweeping: A. Kuehlmann, F. Krohm, DAC 1997.)
-ghost use Rattle.std.specs.Prelude.{◌≡◌, ◌<◌, ◌+◌, ◌*◌, ◌/◌, ℕ, IfNone, IfOk, length};
+ghost use Rattle.std.specs.Prelude.{◌≡◌, ◌<◌, ◌+◌, ◌*◌, ◌/◌, ℕ, IfErr, IfNone, IfOk, length};
+ghost use Rattle.and_graph.specs.Askers.{IsHalted};
 ghost use Rattle.circ_model.specs.Correspondence.{IsLiteral};
 ghost use Rattle.circ_model.specs.Meaning.{places_of};
 ghost use Rattle.and_graph.specs.Graphs.{AreEqual};
@@ -40,6 +41,7 @@ fn settle(
     requires right { b / 2 < length graph.old }
     ensures merged { IsMerged graph.old graph.new }
     ensures equal { IfOk result (λ found. IfNone found (AreEqual graph.old a b)) }
+    ensures most { asker.new.most ≡ asker.old.most }
 {
     if graph.same(a, b) {
         return Ok(None);
@@ -62,6 +64,8 @@ fn settle_or_pose(
     requires right { b / 2 < length graph.old }
     ensures merged { IsMerged graph.old graph.new }
     ensures equal { IfOk result (λ found. IfNone found (AreEqual graph.old a b)) }
+    ensures most { asker.new.most ≡ asker.old.most }
+    ensures halt { IfErr result (IsHalted asker.old asker.new) }
 {
     if graph.same(a, b) {
         return Ok(None);
@@ -90,6 +94,7 @@ impl<'p> FrameMap<'p> {
         requires map { IsResetMap graph.old self.now }
         ensures merged { IsMerged graph.old graph.new }
         ensures holds { IfOk result (λ found. IfNone found (LiteralsHoldInFrame self.now.leaves.pair self.now.depth frame a b)) }
+        ensures most { asker.new.most ≡ asker.old.most }
     {
         let _nodes = graph.len();
         let left = self.reset_literal(frame, a);
@@ -112,6 +117,8 @@ impl<'p> FrameMap<'p> {
         requires map { IsResetMap graph.old self.now }
         ensures merged { IsMerged graph.old graph.new }
         ensures passes { IfOk result (λ found. IfNone found (BasePasses (induction_of self.now classes.now) member)) }
+        ensures most { asker.new.most ≡ asker.old.most }
+        ensures halt { IfErr result (IsHalted asker.old asker.new) }
     {
         for frame in 0..self.depth() {
             let _nodes = graph.len();
@@ -141,6 +148,8 @@ impl<'p> FrameMap<'p> {
         requires map { IsStepMap graph.old self.now classes.now }
         ensures merged { IsMerged graph.old graph.new }
         ensures passes { IfOk result (λ found. IfNone found (StepPasses (induction_of self.now classes.now) member)) }
+        ensures most { asker.new.most ≡ asker.old.most }
+        ensures halt { IfErr result (IsHalted asker.old asker.new) }
     {
         let _nodes = graph.len();
         let (least, other) = self.step_pair(classes, member);

@@ -15,6 +15,8 @@ mod least_runs;
 #[cfg(test)]
 mod partitions;
 #[cfg(test)]
+mod posed;
+#[cfg(test)]
 mod products;
 #[cfg(test)]
 mod rows;

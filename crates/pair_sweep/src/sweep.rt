@@ -1,5 +1,6 @@
 //! A sweep of one version's needed pairs, and what it leaves to that of the next version.
-ghost use Rattle.std.specs.Prelude.{◌≡◌, ◌<◌, ◌≤◌, ◌+◌, ◌*◌, ◌/◌, ℕ, IfNone, IfOk, length};
+ghost use Rattle.std.specs.Prelude.{◌≡◌, ◌<◌, ◌≤◌, ◌+◌, ◌*◌, ◌/◌, ℕ, IfErr, IfNone, IfOk, IsTrue, OnOk, is_some, length, true};
+ghost use Rattle.and_graph.specs.Askers.{IsHalted, IsTaken};
 ghost use Rattle.circ_model.specs.Meaning.{places_of};
 ghost use Rattle.frame_graph.specs.Inductions.{BasePasses, StepPasses};
 ghost use Rattle.pair_sweep.specs.Sweeps.{AreOwedOf, IsSweep};
@@ -121,6 +122,7 @@ impl<'v, 'p> Model for Sweep<'v, 'p> {
 fn rests_on_both(graph: &Graph, asker: &Asker, least: Lit, other: Lit) -> bool
     requires left { least / 2 < length graph.now }
     requires right { other / 2 < length graph.now }
+    ensures { IsTrue result → is_some asker.now.aside ≡ true }
 {
     asker.rests_on(graph.canonical(least).var()) && asker.rests_on(graph.canonical(other).var())
 }
@@ -179,6 +181,8 @@ impl<'v, 'p> Sweep<'v, 'p> {
         requires place { member < places_of self.old.pair }
         ensures kept { self.new ≡ self.old }
         ensures passes { IfOk result (λ found. IfNone found (BasePasses self.old member)) }
+        ensures most { asker.new.most ≡ asker.old.most }
+        ensures halt { IfErr result (IsHalted asker.old asker.new) }
     {
         let frames = &self.resets;
         let found = frames.settle_base(alloc, &mut self.graph, asker, self.classes, member)?;
@@ -198,6 +202,8 @@ impl<'v, 'p> Sweep<'v, 'p> {
         requires place { member < places_of self.old.pair }
         ensures kept { self.new ≡ self.old }
         ensures passes { IfOk result (λ found. IfNone found (StepPasses self.old member)) }
+        ensures most { asker.new.most ≡ asker.old.most }
+        ensures halt { IfErr result (IsHalted asker.old asker.new) }
     {
         let _places = self.classes.len();
         self.steps.reach(&mut self.graph, member + 1)?;
@@ -219,6 +225,7 @@ impl<'v, 'p> Sweep<'v, 'p> {
         requires owed { AreOwedOf self.old owed.now }
         ensures kept { self.new ≡ self.old }
         ensures passes { IfOk result (λ found. IfNone found (StepPasses self.old member)) }
+        ensures most { asker.new.most ≡ asker.old.most }
     {
         let _places = self.classes.len();
         self.steps.reach(&mut self.graph, member + 1)?;
@@ -232,6 +239,7 @@ impl<'v, 'p> Sweep<'v, 'p> {
     /// be found equal.
     pub fn rests_on(&self, asker: &Asker, member: u32) -> bool
         requires place { member < places_of self.now.pair }
+        ensures { IsTrue result → is_some asker.now.aside ≡ true }
     {
         for frame in 0..self.k {
             let (least, other) = self.resets.base_pair(self.classes, frame, member);
@@ -248,7 +256,8 @@ impl<'v, 'p> Sweep<'v, 'p> {
 
     /// Takes in the answer to the question that the asker had put aside. It errs for want of memory alone.
     pub fn take_answer(&mut self, alloc: Global, asker: &mut Asker) -> Result<(), AllocError>
-        ensures { self.new ≡ self.old }
+        ensures kept { self.new ≡ self.old }
+        ensures taken { OnOk result (IsTaken asker.old asker.new) }
     {
         self.graph.take_answer(alloc, asker)
     }

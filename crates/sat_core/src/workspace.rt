@@ -21,6 +21,23 @@ impl Workspace {
         Workspace { kept: None }
     }
 
+    /// How active a variable, counted from 0, is after the last question: how often its conflicts raised it, those of late more, in
+    /// 256ths of what a raise adds by then. A hint.
+    pub fn activity(&self, var: usize) -> u32 {
+        match &self.kept {
+            Some(kept) => kept.question.guide.order.activity(var),
+            None => 0,
+        }
+    }
+
+    /// Has the variables of the next question begin it as active as this. A hint, which the first question doesn't take.
+    pub fn begin_with(&mut self, activities: &[u32]) -> Result<(), AllocError> {
+        match &mut self.kept {
+            Some(kept) => kept.question.guide.order.begin_with(activities),
+            None => Ok(()),
+        }
+    }
+
     /// Keeps it for the next question.
     pub(crate) fn keep(&mut self, kept: Kept) {
         self.kept.insert(kept);

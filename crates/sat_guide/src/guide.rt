@@ -70,7 +70,9 @@ impl Guide {
         self.order.begin(self.vars, vars)?;
         self.units.clear();
         list_units(own, first, &mut self.units)?;
-        hints.cone.lead(own, &mut self.order, &mut self.near)
+        hints.cone.lead(own, &mut self.order, &mut self.near)?;
+        self.order.grant();
+        Ok(())
     }
 
     /// Whether the search, which kept to the variables on which the question rests, is done with them and is to go to all.

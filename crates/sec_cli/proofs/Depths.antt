@@ -1,17 +1,17 @@
 -- A climb from one depth of the induction to the next.
-use Rattle.std.proofs.Common.{◌≡◌, ◌≢◌, ◌<◌, ◌≤◌, ◌+◌, ◌==◌, ◌∙◌, ℕ, Bool, true, false, not, List, Option, None, Some, is_some, IfSome, IsTrue, IsSomeAnd, MatchBool, refl, ap, sym, subst, arith, eqb-true}
-use Rattle.std.proofs.lemmas.Bool.{ne_eqb}
+use Rattle.std.proofs.Common.{◌≡◌, ◌<◌, ◌≤◌, ◌+◌, ◌==◌, ◌∙◌, ℕ, Bool, true, false, not, List, Option, None, Some, is_some, IfSome, IsTrue, IsSomeAnd, MatchBool, refl, ap, sym, subst, arith, eqb-true}
 use Rattle.circ_model.specs.Meaning.{Pair}
 use Rattle.circ_model.specs.Verdict.{AgreeBelow, Verdict, Equivalent, Different, Undecided}
+use Rattle.pair_sweep.specs.Sweeps.{Extent}
 use Rattle.verdict_stamp.specs.Known.{Refined}
 use Rattle.verdict_stamp.specs.Versions.{Standing}
-use Rattle.split_workers.specs.Refined.{IsKnownFor}
+use Rattle.split_workers.specs.Refined.{IsKnownFor, IsMemoryFor}
 use Rattle.refine_board.specs.Running.{Written}
 use Rattle.command_line.specs.Asked.{CheckAsked, ClimbAsked, ForClimb}
 use Rattle.sec_cli.specs.declared.checking.Reached.{Reached}
 use Rattle.sec_cli.specs.declared.ending.Answer.{Answer}
 use Rattle.run_texts.specs.Verdicts.{status_of_verdict}
-use Rattle.sec_cli.specs.Answers.{IsCheckAnswer, IsJournalOf, IsRefinedText, IsVerdictText, IsVerdictAnswer, is_refined}
+use Rattle.sec_cli.specs.Answers.{IsCheckAnswer, IsRefinedText, IsVerdictText, is_refined}
 use Rattle.sec_cli.specs.Climbs.{IsOpen, IsLastTried, IsJournalBefore, IsClimbAnswer, IsReached, check_of_climb}
 use Rattle.sec_cli.specs.Endings.{HasJournal}
 
@@ -107,7 +107,14 @@ for_more : (pair : Pair) (k : ℕ) (version : Standing) (o : Option Refined) →
 for_more pair k version None same at h = h
 for_more pair k version (Some n) same at h = (h.0 ∙ same, omega (arith, h.1, at))
 
+memory_for : (pair : Pair) (k : ℕ) (version : Standing) (o : Option Extent) → version.pair ≡ pair → version.k ≡ k → IfSome o (IsMemoryFor version.pair (version.k + 1)) → IfSome o (IsMemoryFor pair (k + 1))
+memory_for pair k version None same at h = h
+memory_for pair k version (Some m) same at h = (h.0 ∙ same, omega (arith, h.1, at))
+
 -- what is known before the next depth
 pub reaches : (pair : Pair) (c : ClimbAsked) (k : ℕ) (a : Answer) (version : Standing) (r : Reached) → IsCheckAnswer pair (check_of_climb c k) a → a.status ≡ 2 → version.pair ≡ pair → version.k ≡ k → r.agreed ≡ version.k
-    → IfSome r.known (λ n. (n.pair ≡ version.pair) × (n.k ≡ version.k)) → IsReached pair (k + 1) r
-reaches pair c k a version r is two same at agreed known = (subst (AgreeBelow pair) (sym (agreed ∙ at)) (agree_at pair c k a is two), for_more pair k version r.known same at known)
+    → IfSome r.earlier.known (λ n. (n.pair ≡ version.pair) × (n.k ≡ version.k)) → IfSome r.earlier.memory (IsMemoryFor version.pair (version.k + 1)) → IsReached pair (k + 1) r
+reaches pair c k a version r is two same at agreed known memory = (
+  subst (AgreeBelow pair) (sym (agreed ∙ at)) (agree_at pair c k a is two),
+  (for_more pair k version r.earlier.known same at known, memory_for pair k version r.earlier.memory same at memory),
+)

@@ -1,9 +1,9 @@
 -- With `--least` and without `--stats` all answers to the same files and words are the same.
-use Rattle.std.proofs.Common.{◌≡◌, ◌∙◌, ◌<◌, ℕ, Bool, true, false, List, [], ◌++◌, Option, Some, None, IsSomeAnd, MatchBool, Ok, refl, ap, ap₂, sym, subst, arith}
+use Rattle.std.proofs.Common.{◌≡◌, ◌∙◌, ◌<◌, ℕ, Bool, true, false, List, [], ◌++◌, Option, Some, None, IsSomeAnd, MatchBool, refl, ap, ap₂, sym, subst, arith}
 use Rattle.sec_base.specs.Faults.{appended}
 use Rattle.circ_model.specs.Netlist.{Netlist}
-use Rattle.circ_model.specs.Meaning.{Pair, Path, places_of}
-use Rattle.circ_model.specs.Verdict.{Verdict, Equivalent, Different, Undecided, IsVerdict}
+use Rattle.circ_model.specs.Meaning.{Pair, places_of}
+use Rattle.circ_model.specs.Verdict.{Verdict, Equivalent, Different, Undecided}
 use Rattle.circ_model.proofs.OneVerdict.{one_verdict}
 use Rattle.class_partition.specs.Classes.{Classes, ArePartition, AreOfGreatest}
 use Rattle.class_text.specs.ClassLines.{class_lines}
@@ -20,10 +20,9 @@ use Rattle.sec_cli.specs.Answers.{IsCheckAnswer, IsRefinedText, IsVerdictText, s
 use Rattle.pair_files.specs.Files.{IsAccepted}
 use Rattle.pair_files.specs.Pairs.{ArePair}
 use Rattle.sec_cli.specs.Climbs.{IsClimbAnswer, IsLastTried, check_of_climb}
-use Rattle.sec_cli.specs.Endings.{IsCheckEnding, IsClimbEnding}
 use Rattle.sec_cli.specs.Reports.{World, IsStored, store_name}
 use Rattle.sec_cli.specs.Runs.{IsAnswered}
-use Rattle.sec_cli.specs.OneAnswer.{AreSame, OneAnswer, OneClimb, IsOf, IsOneAnswer}
+use Rattle.sec_cli.specs.OneAnswer.{AreSame, OneAnswer, OneClimb, IsOneAnswer}
 use Rattle.sec_cli.proofs.SameLines.{lines_same}
 
 -- a file is accepted as one netlist

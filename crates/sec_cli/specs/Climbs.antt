@@ -1,10 +1,10 @@
 -- The answer of a climb: that of the least depth of the induction that decides, or of the greatest that is tried.
-use Rattle.std.specs.Prelude.{◌≡◌, ℕ, ◌<◌, ◌≤◌, ◌+◌, false, List, Option, None, Some, IfSome}
+use Rattle.std.specs.Prelude.{◌≡◌, ℕ, ◌<◌, ◌≤◌, ◌+◌, false, List, Option, None, Some}
 use Rattle.circ_model.specs.Meaning.{Pair}
 use Rattle.circ_model.specs.Verdict.{AgreeBelow, Undecided, IsVerdict}
 use Rattle.refine_board.specs.Running.{Written}
 use Rattle.command_line.specs.Asked.{CheckAsked, ClimbAsked}
-use Rattle.split_workers.specs.Refined.{IsKnownFor}
+use Rattle.split_workers.specs.Refined.{IsEarlierFor}
 use Rattle.sec_cli.specs.declared.checking.Reached.{Reached}
 use Rattle.sec_cli.specs.declared.ending.Answer.{Answer}
 use Rattle.sec_cli.specs.Answers.{IsCheckAnswer, IsJournalOf}
@@ -13,9 +13,9 @@ use Rattle.sec_cli.specs.Answers.{IsCheckAnswer, IsJournalOf}
 abbrev pub check_of_climb : ClimbAsked → ℕ → CheckAsked
 check_of_climb c k = record { left = c.left; right = c.right; k = k; depth = k; workers = c.workers; classes = false; stats = false; trace = None; cert = None; tied = false; least = c.least }
 
--- the outputs agree in the first frames, and the classes that are known, if any, are of no greater k
+-- the outputs agree in the first frames, and what earlier checks left is for k
 abbrev pub IsReached : Pair → ℕ → Reached → Type 0
-IsReached pair k r = AgreeBelow pair r.agreed × IfSome r.known (IsKnownFor pair k)
+IsReached pair k r = AgreeBelow pair r.agreed × IsEarlierFor pair k r.earlier
 
 -- induction over k frames, and a search for a difference in the first k, decide nothing
 abbrev pub IsOpen : Pair → ℕ → Type 0

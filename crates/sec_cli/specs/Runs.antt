@@ -4,7 +4,6 @@ use Rattle.sec_base.specs.Faults.{appended}
 use Rattle.refine_board.specs.Running.{Written}
 use Rattle.sec_cli.specs.declared.ending.Answer.{Answer}
 use Rattle.sec_cli.specs.declared.ending.Refusal.{Refusal}
-use Rattle.sec_cli.specs.declared.ending.Refusal.TheVariants.{Memory}
 use Rattle.command_line.specs.Asked.{Asked, ForCheck, ForReplay, ForVerify, ForDemo, ForClimb, ForReduce, ForBatch}
 use Rattle.sec_cli.specs.Endings.{Ending, IsCheckEnding, IsReplayEnding, IsVerifyEnding, IsDemoEnding, IsClimbEnding, IsReduceEnding, IsBatchEnded, HasJournal, journal_of, left_name, right_name, third_name, failed_names}
 use Rattle.run_texts.specs.Told.{IsTold}

@@ -1,5 +1,5 @@
 // The answer of `check`: the verdict of a pair, and its text.
-ghost use Rattle.std.specs.Prelude.{◌≡◌, ◌≢◌, ◌≤◌, ◌<◌, ◌++◌, ℕ, List, [], length, is_some, IfOk, IfSome, OnOk};
+ghost use Rattle.std.specs.Prelude.{◌≡◌, ◌≢◌, ◌≤◌, ◌<◌, ◌++◌, ℕ, List, [], length, is_some, IfOk, IfSome, None, OnOk};
 ghost use Rattle.circ_model.specs.Meaning.{IsSoundPair, places_of, outputs_of};
 ghost use Rattle.circ_model.specs.Verdict.{AgreeBelow};
 ghost use Rattle.class_partition.specs.Classes.{ArePartition, AreOfGreatest};
@@ -7,7 +7,7 @@ ghost use Rattle.class_partition.specs.Laws.{PairOutput};
 ghost use Rattle.induction_base.specs.Least.{IsLeastOrNone, IsShown};
 ghost use Rattle.command_line.specs.Asked.{check_asked, IsCheckWithin};
 ghost use Rattle.pair_pool.specs.Unpaired.{AreLeftOut};
-ghost use Rattle.split_workers.specs.Refined.{IsKnownFor, IsRefined};
+ghost use Rattle.split_workers.specs.Refined.{IsMemoryFor};
 ghost use Rattle.sec_cli.specs.Answers.{AreClassLines, IsCertOf, IsCheckAnswer, IsJournalOf, IsRefinedText, IsShownAs, is_refined, stats_lines};
 ghost use Rattle.sec_cli.specs.Climbs.{IsReached};
 
@@ -23,12 +23,12 @@ use product_machine::Product;
 use refine_board::Journal;
 use run_texts::{different_line, equivalent_line, push_numbers, undecided_head};
 use sec_base::Gate;
-use split_workers::{Refined, refine, refine_known};
+use split_workers::{Earlier, Refined, refine_known};
 use std::alloc::{AllocError, Global};
 use std::sync::Wait;
 use std::thread::Threads;
 use trace_witness::write_trace;
-use verdict_stamp::{Known, Version};
+use verdict_stamp::Version;
 
 // Adds the class lines where they are asked for.
 fn push_classes(
@@ -264,67 +264,71 @@ pub(crate) fn different(
     })
 }
 
-/// What is known of a pair before a check: in how many frames the outputs agree on every run, and the classes of the greatest
-/// correspondence for a smaller k, where there are some.
+/// What is known of a pair before a check: in how many frames the outputs agree on every run, and what checks with a smaller k left.
 #[derive(Drop)]
 pub(crate) struct Reached<'p> {
     pub(crate) agreed: u32,
-    pub(crate) known: Option<Known<'p>>,
+    pub(crate) earlier: Earlier<'p>,
 }
 
-// The classes of the greatest correspondence. What those of a smaller k pair is not asked again.
-fn refine_from<'p, R: Threads + Wait + Sync, G: Gate>(
-    rt: &R,
-    alloc: Global,
-    product: &'p Product,
-    c: &Check,
-    known: &Option<Known<'p>>,
-    gate: &G,
-) -> Result<Refined<'p>, AllocError>
-    requires within { IsCheckWithin (check_asked c.now) }
-    requires known { IfSome known.now (IsKnownFor product.now c.now.k) }
-    ensures { IfOk result (λ r. IsRefined product.entry.now c.now.k c.now.workers r.version r.journal.entries) }
-{
-    match known {
-        Some(known) => refine_known(rt, alloc, product, c.k, c.workers, gate, known),
-        None => refine(rt, alloc, product, c.k, c.workers, gate),
+impl<'p> Reached<'p> {
+    // That the outputs agree in the first frame, and no more.
+    fn first() -> Reached<'p>
+        ensures { result ≡ record { agreed = 1; earlier = record { known = None; memory = None } } }
+    {
+        Reached {
+            agreed: 1,
+            earlier: Earlier::nothing(),
+        }
     }
 }
 
 /// The verdict of a pair of which this is known, as it is printed, and the version whose classes are those of the greatest
-/// correspondence.
+/// correspondence. What was proved goes into what is known.
 pub(crate) fn check_beyond<'p, R: Threads + Wait + Sync, G: Gate>(
     rt: &R,
     alloc: Global,
     product: &'p Product,
     c: &Check,
-    reached: &Reached<'p>,
+    reached: &mut Reached<'p>,
     gate: &G,
 ) -> Result<(Answer, Version<'p>), AllocError>
     requires within { IsCheckWithin (check_asked c.now) }
-    requires reached { IsReached product.now c.now.k reached.now }
+    requires reached { IsReached product.now c.now.k reached.old }
     ensures answer { IfOk result (λ r. IsCheckAnswer product.entry.now (check_asked c.now) r.0) }
     ensures status { IfOk result (λ r. r.0.status ≤ 2) }
     ensures journal { IfOk result (λ r. is_some r.0.journal ≡ is_refined r.0.status) }
     ensures pair { IfOk result (λ r. r.1.pair ≡ product.entry.now) }
     ensures k { IfOk result (λ r. r.1.k ≡ c.now.k) }
     ensures greatest { IfOk result (λ r. AreOfGreatest product.entry.now c.now.k r.1.classes) }
+    ensures memory { IfSome reached.new.earlier.memory (IsMemoryFor product.entry.now c.now.k) }
 {
     let _sound = product.cells();
+    let Reached { agreed, earlier } = reached;
     let Refined {
         version,
         journal,
         ..
-    } = refine_from(rt, alloc, product, c, &reached.known, gate)?;
-    let answer = answer_by(
-        alloc,
-        product,
-        c,
-        version.classes(),
-        journal,
-        reached.agreed,
-    )?;
+    } = refine_known(rt, alloc, product, c.k, c.workers, gate, earlier)?;
+    let answer = answer_by(alloc, product, c, version.classes(), journal, *agreed)?;
     Ok((answer, version))
+}
+
+// The verdict of a pair whose outputs agree in the first frame of every run.
+fn check_agreed<'p, R: Threads + Wait + Sync, G: Gate>(
+    rt: &R,
+    alloc: Global,
+    product: &'p Product,
+    c: &Check,
+    gate: &G,
+) -> Result<(Answer, Version<'p>), AllocError>
+    requires within { IsCheckWithin (check_asked c.now) }
+    requires agree { AgreeBelow product.now 1 }
+    ensures answer { IfOk result (λ r. IsCheckAnswer product.entry.now (check_asked c.now) r.0) }
+    ensures status { IfOk result (λ r. r.0.status ≤ 2) }
+    ensures journal { IfOk result (λ r. is_some r.0.journal ≡ is_refined r.0.status) }
+{
+    check_beyond(rt, alloc, product, c, &mut Reached::first(), gate)
 }
 
 /// The verdict of a pair, as it is printed.
@@ -343,10 +347,6 @@ pub(crate) fn check_pair<R: Threads + Wait + Sync, G: Gate>(
     if let Some(diff) = least_difference(alloc, product, 1)? {
         return different(alloc, product, c, diff);
     }
-    let reached = Reached {
-        agreed: 1,
-        known: None,
-    };
-    let (answer, _) = check_beyond(rt, alloc, product, c, &reached, gate)?;
+    let (answer, _) = check_agreed(rt, alloc, product, c, gate)?;
     Ok(answer)
 }

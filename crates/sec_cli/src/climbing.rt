@@ -1,8 +1,9 @@
 // The answer of `climb`: checks with induction over 1, 2, .. frames, up to the first that decides.
-ghost use Rattle.std.specs.Prelude.{◌≡◌, ◌<◌, ◌≤◌, IfOk, IfSome, MatchBool, ◌==◌, is_some};
+ghost use Rattle.std.specs.Prelude.{◌≡◌, ◌<◌, ◌≤◌, ◌+◌, IfOk, IfSome, OnOk, MatchBool, ◌==◌, is_some};
 ghost use Rattle.circ_model.specs.Verdict.{AgreeBelow};
 ghost use Rattle.class_partition.specs.Classes.{AreOfGreatest};
 ghost use Rattle.induction_base.specs.Least.{IsShown};
+ghost use Rattle.split_workers.specs.Refined.{IsMemoryFor};
 ghost use Rattle.command_line.specs.Asked.{ForClimb, check_asked, climb_asked, IsClimbWithin};
 ghost use Rattle.sec_cli.specs.Endings.{HasJournal};
 ghost use Rattle.sec_cli.specs.Answers.{IsCheckAnswer, is_refined};
@@ -15,10 +16,11 @@ use induction_base::{Diff, least_difference};
 use product_machine::Product;
 use refine_board::Journal;
 use sec_base::Gate;
+use split_workers::Earlier;
 use std::alloc::{AllocError, Global};
 use std::sync::Wait;
 use std::thread::Threads;
-use verdict_stamp::{Known, Version};
+use verdict_stamp::{Known, ProverMemory, Version};
 
 // The check with induction over so many frames.
 fn check_of<'w>(c: &Climb<'w>, k: u32) -> Check<'w>
@@ -46,37 +48,80 @@ fn check_at<'p, R: Threads + Wait + Sync, G: Gate>(
     product: &'p Product,
     c: &Climb,
     k: u32,
-    reached: &Reached<'p>,
+    reached: &mut Reached<'p>,
     gate: &G,
 ) -> Result<(Answer, Version<'p>), AllocError>
     requires within { IsClimbWithin (climb_asked c.now) }
     requires some { 0 < k }
     requires few { k ≤ c.now.most }
-    requires reached { IsReached product.now k reached.now }
+    requires reached { IsReached product.now k reached.old }
     ensures answer { IfOk result (λ r. IsCheckAnswer product.entry.now (check_of_climb (climb_asked c.now) k) r.0) }
     ensures status { IfOk result (λ r. r.0.status ≤ 2) }
     ensures journal { IfOk result (λ r. is_some r.0.journal ≡ is_refined r.0.status) }
     ensures pair { IfOk result (λ r. r.1.pair ≡ product.entry.now) }
     ensures k { IfOk result (λ r. r.1.k ≡ k) }
     ensures greatest { IfOk result (λ r. AreOfGreatest product.entry.now k r.1.classes) }
+    ensures memory { IfSome reached.new.earlier.memory (IsMemoryFor product.entry.now k) }
 {
     let check = check_of(c, k);
     check_beyond(rt, alloc, product, &check, reached, gate)
 }
 
-// What is known after a check that is undecided: its classes, and that the outputs agree in as many frames as it searched.
-fn known_after<'p>(alloc: Global, version: Version<'p>) -> Result<Reached<'p>, AllocError>
+// What is known before the first check of a climb, where the outputs agree in the first frame. What it proves can go on to so many
+// frames.
+fn reached_first<'p>(
+    alloc: Global,
+    product: &'p Product,
+    most: u32,
+) -> Result<Reached<'p>, AllocError>
+    requires some { 0 < most }
+    requires few { most ≤ 16 }
+    requires agree { AgreeBelow product.now 1 }
+    ensures { IfOk result (IsReached product.entry.now 1) }
+{
+    let memory = ProverMemory::new(alloc, product, 1, most)?;
+    Ok(Reached {
+        agreed: 1,
+        earlier: Earlier {
+            known: None,
+            memory: Some(memory),
+        },
+    })
+}
+
+// The classes of a check that is undecided.
+fn known_after<'p>(alloc: Global, version: Version<'p>) -> Result<Known<'p>, AllocError>
     requires greatest { AreOfGreatest version.pair version.k version.classes }
-    ensures agreed { IfOk result (λ r. r.agreed ≡ version.entry.k) }
-    ensures known { IfOk result (λ r. IfSome r.known (λ n. (n.pair ≡ version.entry.pair) × (n.k ≡ version.entry.k))) }
+    ensures { IfOk result (λ n. (n.pair ≡ version.entry.pair) × (n.k ≡ version.entry.k)) }
 {
     let k = version.k();
     let known = Known::of(alloc, version.product(), k, version.classes());
     drop(version);
-    Ok(Reached {
-        agreed: k,
-        known: Some(known?),
-    })
+    known
+}
+
+// After a check that is undecided: the outputs agree in as many frames as it searched, its classes are known, and what it proved
+// goes on to one frame more.
+fn reach<'p>(
+    alloc: Global,
+    version: Version<'p>,
+    reached: &mut Reached<'p>,
+) -> Result<(), AllocError>
+    requires few { version.k < 16 }
+    requires greatest { AreOfGreatest version.pair version.k version.classes }
+    requires memory { IfSome reached.old.earlier.memory (IsMemoryFor version.pair version.k) }
+    ensures agreed { OnOk result (reached.new.agreed ≡ version.entry.k) }
+    ensures known { OnOk result (IfSome reached.new.earlier.known (λ n. (n.pair ≡ version.entry.pair) × (n.k ≡ version.entry.k))) }
+    ensures memory { OnOk result (IfSome reached.new.earlier.memory (IsMemoryFor version.entry.pair (version.entry.k + 1))) }
+{
+    let Earlier { known, memory } = &mut reached.earlier;
+    if let Some(left) = memory.take() {
+        let deeper = left.deeper(alloc)?;
+        *memory = Some(deeper);
+    }
+    reached.agreed = version.k();
+    *known = Some(known_after(alloc, version)?);
+    Ok(())
 }
 
 // An answer that ends the climb. With a difference comes the journal of the refinement before it.
@@ -119,8 +164,38 @@ fn differs_at_once(
     Ok(ended(answer, None))
 }
 
-// The climb of a pair whose outputs agree in the first frame of every run. What the checks before it found serves each check: it
-// asks for no pair of the classes that are known, and for no difference in the frames in which the outputs agree.
+// The climb from what is known before the first check. What the checks before it found serves each check: it asks for no pair of the
+// classes that are known, goes on with the graph and all that was proved of it, and seeks no difference in the frames in which the
+// outputs agree.
+fn climb_from<'p, R: Threads + Wait + Sync, G: Gate>(
+    rt: &R,
+    alloc: Global,
+    product: &'p Product,
+    c: &Climb,
+    reached: &mut Reached<'p>,
+    gate: &G,
+) -> Result<Answer, AllocError>
+    requires within { IsClimbWithin (climb_asked c.now) }
+    requires reached { IsReached product.now 1 reached.old }
+    ensures answer { IfOk result (IsClimbAnswer product.now (climb_asked c.now)) }
+    ensures status { IfOk result (λ a. a.status ≤ 2) }
+    ensures journal { IfOk result (λ a. HasJournal (ForClimb (climb_asked c.now)) a.status a.journal) }
+{
+    let mut before = None;
+    for k in 1..c.most {
+        let (answer, version) = check_at(rt, alloc, product, c, k, reached, gate)?;
+        if answer.status != 2 {
+            return Ok(ended(answer, before));
+        }
+        let Answer { journal, .. } = answer;
+        before = journal;
+        reach(alloc, version, reached)?;
+    }
+    let (answer, _) = check_at(rt, alloc, product, c, c.most, reached, gate)?;
+    Ok(ended(answer, before))
+}
+
+// The climb of a pair whose outputs agree in the first frame of every run.
 fn climb_on<R: Threads + Wait + Sync, G: Gate>(
     rt: &R,
     alloc: Global,
@@ -134,23 +209,8 @@ fn climb_on<R: Threads + Wait + Sync, G: Gate>(
     ensures status { IfOk result (λ a. a.status ≤ 2) }
     ensures journal { IfOk result (λ a. HasJournal (ForClimb (climb_asked c.now)) a.status a.journal) }
 {
-    let mut before = None;
-    let mut known = Reached {
-        agreed: 1,
-        known: None,
-    };
-    for k in 1..c.most {
-        let (answer, version) = check_at(rt, alloc, product, c, k, &known, gate)?;
-        if answer.status != 2 {
-            return Ok(ended(answer, before));
-        }
-        let Answer { journal, .. } = answer;
-        before = journal;
-        let next = known_after(alloc, version)?;
-        known = next;
-    }
-    let (answer, _) = check_at(rt, alloc, product, c, c.most, &known, gate)?;
-    Ok(ended(answer, before))
+    let mut reached = reached_first(alloc, product, c.most)?;
+    climb_from(rt, alloc, product, c, &mut reached, gate)
 }
 
 /// The verdict of the least depth of the induction that decides, as it is printed, or where none up to the greatest does, that

@@ -4,6 +4,7 @@
 
 mod bench;
 mod desk;
+mod earlier;
 mod found;
 mod lent;
 mod report;
@@ -15,5 +16,6 @@ mod table;
 mod tests;
 mod worker;
 
+pub use earlier::Earlier;
 pub use report::{WorkReport, reports_of};
 pub use running::{Refined, refine, refine_known};

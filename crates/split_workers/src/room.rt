@@ -4,6 +4,7 @@ ghost use Rattle.std.specs.Prelude.{◌≡◌, ◌<◌, IfSome, length};
 ghost use Rattle.refine_board.specs.Running.{IsAbout};
 ghost use Rattle.split_workers.specs.Seats.{HaveEnded, OwesLess};
 ghost use Rattle.split_workers.specs.Desks.{IsAskedOf, IsOutcome};
+ghost use Rattle.split_workers.specs.Refined.{IsMemoryFor};
 
 use crate::desk::{Asked, Desk};
 use crate::found::Found;
@@ -16,7 +17,7 @@ use sec_base::Gate;
 use std::marker::Model;
 use std::sync::Wait;
 use std::sync::ledger::Ledger;
-use verdict_stamp::{Verdict, Version};
+use verdict_stamp::{ProverMemory, Verdict, Version};
 
 /// The desk behind its lock, with the bell that wakes those who wait for work; the table at which workers take turns, behind a lock of
 /// its own; and what is read without a lock. Who has both locks took that of the table first.
@@ -28,21 +29,34 @@ pub(crate) struct Room<'v, 'p, L: Run, E: Ledger, O: Ledger> {
 }
 
 impl<'v, 'p, L: Run, E: Ledger, O: Ledger> Room<'v, 'p, L, E, O> {
-    pub(crate) fn new(desk: Desk<'v, 'p, L, E, O>, lent: Lent<'v, 'p, L>) -> Room<'v, 'p, L, E, O> {
+    /// A room in which nobody has worked yet, with what was proved before where something was.
+    pub(crate) fn new(
+        desk: Desk<'v, 'p, L, E, O>,
+        lent: Lent<'v, 'p, L>,
+        memory: Option<ProverMemory<'p>>,
+    ) -> Room<'v, 'p, L, E, O>
+        requires { IfSome memory (IsMemoryFor L.pair L.k) }
+    {
         Room {
             desk: Bell::new(desk),
-            table: Bell::new(Table::new()),
+            table: Bell::new(Table::new(memory)),
             lent,
         }
     }
 
-    /// What the run came to, when all workers have gone.
-    pub(crate) fn close(self, told: Vec<Option<Seat<E, O>>>) -> Option<(Version<'p>, Journal)>
+    /// What the run came to, when all workers have gone. What was proved goes into the memory.
+    pub(crate) fn close(
+        self,
+        told: Vec<Option<Seat<E, O>>>,
+        memory: &mut Option<ProverMemory<'p>>,
+    ) -> Option<(Version<'p>, Journal)>
         requires all { length told.items ≡ L.workers }
         requires ended { HaveEnded told.items }
-        ensures { IfSome result (λ r. IsOutcome L.pair L.k L.workers L.opening r.0 r.1.entries) }
+        ensures outcome { IfSome result (λ r. IsOutcome L.pair L.k L.workers L.opening r.0 r.1.entries) }
+        ensures memory { IfSome memory.new (IsMemoryFor L.pair L.k) }
     {
-        let Room { desk, .. } = self;
+        let Room { desk, table, .. } = self;
+        *memory = table.into_inner().into_memory();
         desk.into_inner().close(told)
     }
 }

@@ -1,13 +1,13 @@
 //! A run of several workers, from the opening to the classes of the greatest correspondence.
 ghost use Rattle.std.specs.Prelude.{◌≡◌, ◌<◌, ◌≤◌, ◌*◌, ◌^◌, IfOk, IfSome};
 ghost use Rattle.refine_board.specs.Schedules.{opened};
-ghost use Rattle.split_workers.specs.Refined.{IsKnownFor};
 ghost use Rattle.split_workers.specs.Seats.{HasEnded};
 ghost use Rattle.split_workers.specs.Desks.{IsOutcome};
-ghost use Rattle.split_workers.specs.Refined.{IsRefined};
+ghost use Rattle.split_workers.specs.Refined.{IsEarlierFor, IsKnownFor, IsMemoryFor, IsRefined};
 ghost use Rattle.split_workers.specs.Reports.{AreReports};
 
 use crate::desk::Desk;
+use crate::earlier::Earlier;
 use crate::lent::Lent;
 use crate::report::{WorkReport, reports_of};
 use crate::room::Room;
@@ -22,7 +22,7 @@ use std::sync::Wait;
 use std::sync::ledger::{Blank, Ledger};
 use std::thread;
 use std::thread::Threads;
-use verdict_stamp::{Known, Version, Versions};
+use verdict_stamp::{Known, ProverMemory, Version, Versions};
 
 /// What a run comes to.
 #[derive(Drop)]
@@ -44,16 +44,18 @@ pub(crate) struct Blanks {
     pub(crate) owed: Blank,
 }
 
-// What a run begins with: the list that it publishes its versions in, its first version, and the classes of an earlier k where
-// they are known.
+// What a run begins with: the list that it publishes its versions in, its first version, the classes of an earlier k where they
+// are known, and how many workers it has.
 #[derive(Drop)]
 struct Beginning<'v, 'p> {
     versions: &'v Versions<'p>,
     first: Version<'p>,
     known: Option<&'v Known<'p>>,
+    workers: u32,
 }
 
-// A run under the names of the run and of the ledgers of its workers.
+// A run under the names of the run and of the ledgers of its workers. It goes on with what was proved before, and leaves what was
+// proved.
 fn refine_named<
     'p,
     L: Run + Send + Sync,
@@ -66,36 +68,39 @@ fn refine_named<
     alloc: Global,
     blanks: Blanks,
     beginning: Beginning<'_, 'p>,
-    workers: u32,
+    memory: &mut Option<ProverMemory<'p>>,
     gate: &G,
 ) -> Result<Refined<'p>, AllocError>
     requires name { (blanks.offers.name ≡ L.name) × (blanks.offers.parts ≡ L.parts) }
     requires parts { 2 ^ 62 ≤ L.parts }
     requires ends_name { blanks.ends.name ≡ E.name }
-    requires ends_parts { (blanks.ends.parts ≡ E.parts) × (E.parts ≡ workers) }
+    requires ends_parts { (blanks.ends.parts ≡ E.parts) × (E.parts ≡ beginning.workers) }
     requires owed_name { blanks.owed.name ≡ O.name }
-    requires owed_parts { (blanks.owed.parts ≡ O.parts) × (O.parts ≡ workers * 2) }
+    requires owed_parts { (blanks.owed.parts ≡ O.parts) × (O.parts ≡ beginning.workers * 2) }
     requires product { beginning.first.pair ≡ L.pair }
     requires k { beginning.first.k ≡ L.k }
-    requires workers { workers ≡ L.workers }
-    requires some { (0 < workers) × (workers ≤ 64) }
+    requires workers { beginning.workers ≡ L.workers }
+    requires some { (0 < beginning.workers) × (beginning.workers ≤ 64) }
     requires opening { L.opening ≡ opened L.pair L.workers beginning.first.classes beginning.first.number }
     requires list { L.list ≡ beginning.versions.now }
     requires earlier { IfSome beginning.known (λ n. IsKnownFor L.pair L.k n.now) }
+    requires memory { IfSome memory.old (IsMemoryFor L.pair L.k) }
     ensures outcome { IfOk result (λ r. IsOutcome L.pair L.k L.workers L.opening r.version r.journal.entries) }
-    ensures reports { IfOk result (λ r. AreReports workers r.journal.entries r.reports.items) }
+    ensures reports { IfOk result (λ r. AreReports beginning.entry.workers r.journal.entries r.reports.items) }
+    ensures memory { IfSome memory.new (IsMemoryFor L.pair L.k) }
 {
     let Beginning {
         versions,
         first,
         known,
+        workers,
     } = beginning;
     let places = first.classes().len();
     let Blanks { offers, ends, owed } = blanks;
     let (ledgers, seats) = seats::<E, O>(alloc, ends, owed, workers)?;
     let board = Board::open(alloc, offers, versions, first, workers)?;
     let lent = Lent::new(versions, known, places, workers);
-    let room = Room::<L, E, O>::new(Desk::new(board, ledgers), lent);
+    let room = Room::<L, E, O>::new(Desk::new(board, ledgers), lent, memory.take());
     let shared = &room;
     let told = thread::map_vec(
         rt,
@@ -106,7 +111,7 @@ fn refine_named<
             ensures { IfSome result (HasEnded seat.party) }
         { work(rt, alloc, shared, gate, seat) },
     )?;
-    let Some((version, journal)) = room.close(told) else {
+    let Some((version, journal)) = room.close(told, memory) else {
         return Err(AllocError);
     };
     let reports = reports_of(alloc, &journal, workers)?;
@@ -117,23 +122,33 @@ fn refine_named<
     })
 }
 
-// A run, with the classes of an earlier k where they are known.
+// The classes of an earlier k, where they are known, and how many workers a run has.
+#[derive(Drop)]
+struct Start<'a, 'p> {
+    known: Option<&'a Known<'p>>,
+    workers: u32,
+}
+
+// A run from its opening on. It goes on with what was proved before, and leaves what was proved.
 fn refine_with<'p, R: Threads + Wait + Sync, G: Gate>(
     rt: &R,
     alloc: Global,
     product: &'p Product,
     k: u32,
-    workers: u32,
+    start: Start<'_, 'p>,
+    memory: &mut Option<ProverMemory<'p>>,
     gate: &G,
-    known: Option<&Known<'p>>,
 ) -> Result<Refined<'p>, AllocError>
     requires some { 0 < k }
     requires few { k ≤ 16 }
-    requires workers { (0 < workers) × (workers ≤ 64) }
-    requires earlier { IfSome known (λ n. IsKnownFor product.now k n.now) }
-    ensures refined { IfOk result (λ r. IsRefined product.entry.now k workers r.version r.journal.entries) }
-    ensures reports { IfOk result (λ r. AreReports workers r.journal.entries r.reports.items) }
+    requires workers { (0 < start.workers) × (start.workers ≤ 64) }
+    requires earlier { IfSome start.known (λ n. IsKnownFor product.now k n.now) }
+    requires memory { IfSome memory.old (IsMemoryFor product.now k) }
+    ensures refined { IfOk result (λ r. IsRefined product.entry.now k start.entry.workers r.version r.journal.entries) }
+    ensures reports { IfOk result (λ r. AreReports start.entry.workers r.journal.entries r.reports.items) }
+    ensures memory { IfSome memory.new (IsMemoryFor product.entry.now k) }
 {
+    let Start { known, workers } = start;
     let first = Version::opening(alloc, product, k)?;
     let versions = Versions::new(alloc)?;
     refine_named::<Brand, Brand, Brand, R, G>(
@@ -148,8 +163,9 @@ fn refine_with<'p, R: Threads + Wait + Sync, G: Gate>(
             versions: &versions,
             first,
             known,
+            workers,
         },
-        workers,
+        memory,
         gate,
     )
 }
@@ -171,11 +187,20 @@ pub fn refine<'p, R: Threads + Wait + Sync, G: Gate>(
     ensures refined { IfOk result (λ r. IsRefined product.entry.now k workers r.version r.journal.entries) }
     ensures reports { IfOk result (λ r. AreReports workers r.journal.entries r.reports.items) }
 {
-    refine_with(rt, alloc, product, k, workers, gate, None)
+    refine_known(
+        rt,
+        alloc,
+        product,
+        k,
+        workers,
+        gate,
+        &mut Earlier::nothing(),
+    )
 }
 
-/// The same where the classes of the greatest correspondence for induction over fewer frames, or as many, are known. Each pair of
-/// these passes for k too, so the workers ask no question about it.
+/// The same where earlier runs left something. Each pair of the classes that are known passes for k too, so the workers ask no
+/// question about it; and they go on with the graph and all that was proved of it. It leaves what was proved for others of the same
+/// k, or nothing where memory ran out.
 pub fn refine_known<'p, R: Threads + Wait + Sync, G: Gate>(
     rt: &R,
     alloc: Global,
@@ -183,15 +208,23 @@ pub fn refine_known<'p, R: Threads + Wait + Sync, G: Gate>(
     k: u32,
     workers: u32,
     gate: &G,
-    known: &Known<'p>,
+    earlier: &mut Earlier<'p>,
 ) -> Result<Refined<'p>, AllocError>
     requires some { 0 < k }
     requires few { k ≤ 16 }
     requires workers { (0 < workers) × (workers ≤ 64) }
-    requires pair { known.now.pair ≡ product.now }
-    requires earlier { known.now.k ≤ k }
+    requires earlier { IsEarlierFor product.now k earlier.old }
     ensures refined { IfOk result (λ r. IsRefined product.entry.now k workers r.version r.journal.entries) }
     ensures reports { IfOk result (λ r. AreReports workers r.journal.entries r.reports.items) }
+    ensures known { earlier.new.known ≡ earlier.old.known }
+    ensures memory { IfSome earlier.new.memory (IsMemoryFor product.entry.now k) }
 {
-    refine_with(rt, alloc, product, k, workers, gate, Some(known))
+    let known = earlier.known.take();
+    let start = Start {
+        known: known.as_ref(),
+        workers,
+    };
+    let refined = refine_with(rt, alloc, product, k, start, &mut earlier.memory, gate);
+    earlier.known = known;
+    refined
 }

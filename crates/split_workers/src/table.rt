@@ -1,7 +1,10 @@
 //! What the workers of a run take turns at. One of them at a time sweeps the pairs, on a graph that all share: what one finds equal
 //! serves all. A question over a large cone is put aside, and its worker solves it away from the table, while others go on. Where it
 //! rests on a pair beneath it that another worker is still settling, it is asked again when that is settled.
-ghost use Rattle.std.specs.Prelude.{◌≡◌, IfOk};
+ghost use Rattle.std.specs.Prelude.{◌≡◌, IfErr, IfOk, IfSome, OnOk, is_some, true};
+ghost use Rattle.and_graph.specs.Askers.{IsHalted, IsTaken};
+ghost use Rattle.and_graph.specs.declared.halt.Halt.TheVariants.{Posed};
+ghost use Rattle.split_workers.specs.Refined.{IsMemoryFor};
 ghost use Rattle.split_workers.specs.Workers.{IsFoundFor};
 
 use crate::bench::{Bench, bench_for};
@@ -9,38 +12,55 @@ use crate::lent::Lent;
 use refine_board::{Offer, Run};
 use std::alloc::{AllocError, Global};
 use std::marker::{Model, PhantomData};
-use verdict_stamp::{Asker, Halt, Proof};
+use verdict_stamp::{Asker, Halt, Proof, ProverMemory};
 
 // So many workers a run has at most.
 const SEATS: usize = 64;
 
-/// The bench, where a pair was offered; and by worker the member of the offer that it is settling, from when a question about that is
-/// put aside until it is settled.
+/// The bench, where a pair was offered; until then what was proved before the run, where something was; and by worker the member of
+/// the offer that it is settling, from when a question about that is put aside until it is settled. Contracts see whether there is a
+/// bench.
 #[derive(Drop)]
 pub(crate) struct Table<'v, 'p, L: Run> {
     bench: Option<Bench<'v, 'p>>,
+    memory: Option<ProverMemory<'p>>,
     away: [Option<u32>; SEATS],
     of: PhantomData<L>,
 }
 
 impl<'v, 'p, L: Run> Model for Table<'v, 'p, L> {
-    ghost use Rattle.std.specs.Prelude.{IfSome, ⊤};
+    ghost use Rattle.std.specs.Prelude.{Bool, IfSome, is_some};
     ghost use Rattle.split_workers.specs.Benches.{IsBenchOf};
+    ghost use Rattle.split_workers.specs.Refined.{IsMemoryFor};
 
-    ghost Value = { ⊤ };
+    ghost Value = { Bool };
 
-    ghost view = { λ _. tt };
+    ghost view = { λ t. is_some t.bench };
 
-    ghost invariant = { λ t. IfSome t.bench (IsBenchOf L.list L.pair L.k) };
+    ghost invariant = { λ t. IfSome t.bench (IsBenchOf L.list L.pair L.k) × IfSome t.memory (IsMemoryFor L.pair L.k) };
 }
 
 impl<'v, 'p, L: Run> Table<'v, 'p, L> {
-    /// A table without a bench, from which nobody is away.
-    pub(crate) fn new() -> Table<'v, 'p, L> {
+    /// A table without a bench, from which nobody is away, with what was proved before where something was.
+    pub(crate) fn new(memory: Option<ProverMemory<'p>>) -> Table<'v, 'p, L>
+        requires { IfSome memory (IsMemoryFor L.pair L.k) }
+    {
         Table {
             bench: None,
+            memory,
             away: [None; SEATS],
             of: PhantomData,
+        }
+    }
+
+    /// What was proved at it, and before, where something was.
+    pub(crate) fn into_memory(self) -> Option<ProverMemory<'p>>
+        ensures { IfSome result (IsMemoryFor L.pair L.k) }
+    {
+        let Table { bench, memory, .. } = self;
+        match bench {
+            Some(bench) => Some(bench.into_memory()),
+            None => memory,
         }
     }
 
@@ -52,9 +72,13 @@ impl<'v, 'p, L: Run> Table<'v, 'p, L> {
         asker: &mut Asker,
         offer: &Offer<'p, L>,
     ) -> Result<Proof<'v, 'p>, Halt>
-        ensures { IfOk result (IsFoundFor L.pair L.k offer.now) }
+        ensures found { IfOk result (IsFoundFor L.pair L.k offer.now) }
+        ensures most { asker.new.most ≡ asker.old.most }
+        ensures halt { IfErr result (IsHalted asker.old asker.new) }
+        ensures bench { IfErr result (λ h. h ≡ Posed → self.new ≡ true) }
     {
-        let mut at = bench_for(alloc, lent, self.bench.take(), offer.stamp())?;
+        let bench = self.bench.take();
+        let mut at = bench_for(alloc, lent, bench, &mut self.memory, offer.stamp())?;
         let found = find_at(alloc, lent, &mut at, asker, offer);
         self.bench = Some(at);
         found
@@ -68,7 +92,10 @@ impl<'v, 'p, L: Run> Table<'v, 'p, L> {
         asker: &mut Asker,
         offer: &Offer<'p, L>,
     ) -> Result<Proof<'v, 'p>, Halt>
-        ensures { IfOk result (IsFoundFor L.pair L.k offer.now) }
+        ensures found { IfOk result (IsFoundFor L.pair L.k offer.now) }
+        ensures most { asker.new.most ≡ asker.old.most }
+        ensures halt { IfErr result (IsHalted asker.old asker.new) }
+        ensures bench { IfErr result (λ h. h ≡ Posed → self.new ≡ true) }
     {
         let found = self.find(alloc, lent, asker, offer);
         self.note(offer.party(), unsettled(offer, &found));
@@ -76,18 +103,19 @@ impl<'v, 'p, L: Run> Table<'v, 'p, L> {
     }
 
     // Notes the member of the offer that a worker is settling, or that there is none.
-    fn note(&mut self, party: u32, member: Option<u32>) {
+    fn note(&mut self, party: u32, member: Option<u32>)
+        ensures { self.new ≡ self.old }
+    {
         if (party as usize) < SEATS {
             self.away[party as usize] = member;
         }
     }
 
-    /// Takes in the answer to the question that the asker had put aside.
-    pub(crate) fn take_answer(
-        &mut self,
-        alloc: Global,
-        asker: &mut Asker,
-    ) -> Result<(), AllocError> {
+    /// Takes in the answer to the question that the asker had put aside, where there is a bench, as there is once one is put aside.
+    pub(crate) fn take_answer(&mut self, alloc: Global, asker: &mut Asker) -> Result<(), AllocError>
+        ensures kept { self.new ≡ self.old }
+        ensures taken { OnOk result (self.old ≡ true → IsTaken asker.old asker.new) }
+    {
         match &mut self.bench {
             Some(bench) => bench.take_answer(alloc, asker),
             None => Ok(()),
@@ -95,7 +123,9 @@ impl<'v, 'p, L: Run> Table<'v, 'p, L> {
     }
 
     /// A worker gives its offer up.
-    pub(crate) fn leaves(&mut self, party: u32) {
+    pub(crate) fn leaves(&mut self, party: u32)
+        ensures { self.new ≡ self.old }
+    {
         self.note(party, None);
     }
 
@@ -115,7 +145,9 @@ impl<'v, 'p, L: Run> Table<'v, 'p, L> {
 
     /// A worker that is settling a lower pair, and that pair's member, where the question rests on it that this worker's asker has put
     /// aside: it is better to wait until that is settled.
-    pub(crate) fn before(&self, asker: &Asker, party: u32) -> Option<(u32, u32)> {
+    pub(crate) fn before(&self, asker: &Asker, party: u32) -> Option<(u32, u32)>
+        ensures { IfSome result (λ _. is_some asker.now.aside ≡ true) }
+    {
         let Some(bench) = &self.bench else {
             return None;
         };
@@ -153,6 +185,8 @@ fn find_at<'v, 'p, L: Run>(
     requires version { bench.old.value ≡ offer.now.stamp.value }
     ensures bench { bench.new ≡ bench.old }
     ensures found { IfOk result (IsFoundFor L.pair L.k offer.now) }
+    ensures most { asker.new.most ≡ asker.old.most }
+    ensures halt { IfErr result (IsHalted asker.old asker.new) }
 {
     let _owed = offer.stamp();
     bench.settle(alloc, asker, offer.pair(), lent.known)

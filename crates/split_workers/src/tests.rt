@@ -170,7 +170,7 @@ fn run_that_stops<
     let (ledgers, seats) = seats::<E, O>(alloc, ends, owed, 2)?;
     let board = Board::open(alloc, offers, versions, first, 2)?;
     let lent = Lent::new(versions, None, places, 2);
-    let room = Room::<L, E, O>::new(Desk::new(board, ledgers), lent);
+    let room = Room::<L, E, O>::new(Desk::new(board, ledgers), lent, None);
     both_go(rt, alloc, &room, gate, seats)
 }
 

@@ -1,6 +1,7 @@
 //! Proving the needed pairs of a version by k-induction: by the sweep where that shows it, and else by questions over whole
 //! frames, so that the answer is exact whatever the sweep leaves open.
-ghost use Rattle.std.specs.Prelude.{◌≡◌, ◌<◌, ◌≤◌, ◌+◌, ◌-◌, ◌/◌, ℕ, IsTrue, IfOk, IfNone, IfSome, length};
+ghost use Rattle.std.specs.Prelude.{◌≡◌, ◌<◌, ◌≤◌, ◌+◌, ◌-◌, ◌/◌, ℕ, IsTrue, IfErr, IfOk, IfNone, IfSome, OnOk, is_some, length, true};
+ghost use Rattle.and_graph.specs.Askers.{IsHalted, IsTaken};
 ghost use Rattle.circ_model.specs.Meaning.{places_of};
 ghost use Rattle.circ_model.specs.Correspondence.{MaySplit};
 ghost use Rattle.class_partition.specs.Classes.{IsNeeded, least_of, needed};
@@ -341,6 +342,8 @@ impl<'v, 'p> Prover<'v, 'p> {
         ensures kept { self.new ≡ self.old }
         ensures none { IfOk result (λ v. IfNone v (BasePasses (induction_of self.old) pair.member)) }
         ensures some { IfOk result (λ v. IfSome v (IsApart self.old pair.member)) }
+        ensures most { asker.new.most ≡ asker.old.most }
+        ensures halt { IfErr result (IsHalted asker.old asker.new) }
     {
         let version = self.current;
         match self.sweep.base_difference(alloc, asker, pair.member)? {
@@ -366,6 +369,8 @@ impl<'v, 'p> Prover<'v, 'p> {
         ensures kept { self.new ≡ self.old }
         ensures none { IfOk result (λ v. IfNone v (StepPasses (induction_of self.old) pair.member)) }
         ensures some { IfOk result (λ v. IfSome v (IsApart self.old pair.member)) }
+        ensures most { asker.new.most ≡ asker.old.most }
+        ensures halt { IfErr result (IsHalted asker.old asker.new) }
     {
         let version = self.current;
         let Some(bits) = self.sweep.step_difference(alloc, asker, pair.member)? else {
@@ -395,6 +400,7 @@ impl<'v, 'p> Prover<'v, 'p> {
         requires place { pair.member < places_of self.old.pair }
         ensures kept { self.new ≡ self.old }
         ensures step { IfOk result (λ passes. IsTrue passes → StepPasses (induction_of self.old) pair.member) }
+        ensures most { asker.new.most ≡ asker.old.most }
     {
         let mut bits = model;
         let mut owed = Vec::new(alloc);
@@ -433,6 +439,7 @@ impl<'v, 'p> Prover<'v, 'p> {
         requires owed { AllBroken self.old.k (places_of self.old.pair) owed.now }
         ensures kept { self.new ≡ self.old }
         ensures passes { IfOk result (λ found. IfNone found (StepPasses (induction_of self.old) member)) }
+        ensures most { asker.new.most ≡ asker.old.most }
     {
         match self
             .sweep
@@ -459,6 +466,8 @@ impl<'v, 'p> Prover<'v, 'p> {
         requires rep { pair.rep ≡ least_of self.old.classes pair.member }
         ensures kept { self.new ≡ self.old }
         ensures settled { IfOk result (IsSettled self.old pair.member) }
+        ensures most { asker.new.most ≡ asker.old.most }
+        ensures halt { IfErr result (IsHalted asker.old asker.new) }
     {
         let version = self.current;
         self.rows.run_ahead(alloc)?;
@@ -476,14 +485,17 @@ impl<'v, 'p> Prover<'v, 'p> {
 
     /// Whether the question that an asker has put aside rests on a place and its class's least place: then it is better asked once that
     /// pair is settled. A hint.
-    pub fn rests_on(&self, asker: &Asker, member: u32) -> bool {
+    pub fn rests_on(&self, asker: &Asker, member: u32) -> bool
+        ensures { IsTrue result → is_some asker.now.aside ≡ true }
+    {
         let product = self.current.product();
         member < product.len() && self.sweep.rests_on(asker, member)
     }
 
     /// Takes in the answer to a question that the asker had put aside, when it has solved it. It errs for want of memory alone.
     pub fn take_answer(&mut self, alloc: Global, asker: &mut Asker) -> Result<(), AllocError>
-        ensures { self.new ≡ self.old }
+        ensures kept { self.new ≡ self.old }
+        ensures taken { OnOk result (IsTaken asker.old asker.new) }
     {
         self.sweep.take_answer(alloc, asker)
     }
@@ -503,6 +515,8 @@ impl<'v, 'p> Prover<'v, 'p> {
         ensures kept { self.new ≡ self.old }
         ensures settled { IfOk result (IsSettled self.old pair.member) }
         ensures told { IfOk result (IsToldBy known.now self.old pair.member) }
+        ensures most { asker.new.most ≡ asker.old.most }
+        ensures halt { IfErr result (IsHalted asker.old asker.new) }
     {
         let version = self.current;
         let Some(verdict) = Verdict::known_own(version, pair, known) else {

@@ -8,7 +8,7 @@ pub map_vec-requires-after_bounds : goal.map_vec-requires-after_bounds
 map_vec-requires-after_bounds g c βs within = λ i x lt at.
     let b = c.type_bounds in
     let few = c.in_ok-ledgers.ensures.seats in
-    let below : i < c.args.workers = omega (arith, lt, few.0) in
+    let below : i < c.args.beginning.workers = omega (arith, lt, few.0) in
     let is : x ≡ record { party = i; ended = 0; owed = 0 } = at ∙ few.1 i x below in (
       subst (λ n. n < g.L.Run.workers) (sym (ap (λ (s : Seated). s.party) is)) (omega (arith, below, c.requires.workers)),
       (
@@ -23,7 +23,7 @@ show a f = f a
 pub close-requires-clause-ended : goal.close-requires-clause-ended
 close-requires-clause-ended g c = λ i lt.
     let few = c.in_ok-ledgers.ensures.seats in
-    let below : i < c.args.workers = omega (arith, lt, c.in_ok-told.ensures.len, few.0) in
+    let below : i < c.args.beginning.workers = omega (arith, lt, c.in_ok-told.ensures.len, few.0) in
     let got = c.in_ok-told.ensures.each i None (omega (arith, below, few.0)) in
     let e = few.1 i got.1.job below in
     let party : got.1.job.party ≡ i = ap (λ (s : Seated). s.party) (sym (got.1.job_is got.1.job) ∙ e) in

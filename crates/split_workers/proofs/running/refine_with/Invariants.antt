@@ -5,7 +5,7 @@ abbrev pub ghosts-refine_named-L-Ledger : goal.ghosts-refine_named-L-Ledger
 ghosts-refine_named-L-Ledger g a = record { name = a.blanks.offers.name; parts = a.blanks.offers.parts }
 
 abbrev pub ghosts-refine_named-L-Run : goal.ghosts-refine_named-L-Run
-ghosts-refine_named-L-Run g a = record { pair = a.beginning.first.pair; k = a.beginning.first.k; workers = a.workers; opening = opened a.beginning.first.pair a.workers a.beginning.first.classes a.beginning.first.number; list = a.beginning.versions.now }
+ghosts-refine_named-L-Run g a = record { pair = a.beginning.first.pair; k = a.beginning.first.k; workers = a.beginning.workers; opening = opened a.beginning.first.pair a.beginning.workers a.beginning.first.classes a.beginning.first.number; list = a.beginning.versions.now }
 
 abbrev pub ghosts-refine_named-E-Ledger : goal.ghosts-refine_named-E-Ledger
 ghosts-refine_named-E-Ledger g a = record { name = a.blanks.ends.name; parts = a.blanks.ends.parts }

@@ -7,6 +7,6 @@ use Rattle.and_graph.proofs.asking.Asker.take_answer.Goals as goal
 pub returns-clause-equal : goal.returns-clause-equal
 returns-clause-equal c =
     let formula : Formula = c.self.inside.cone.cnf in
-    let some : IfSome (Some c.in-Some.answer) (IsAnswer formula) = subst (λ (o : Option Answer). IfSome o (IsAnswer formula)) (sym c.in-Some.ensures.value) c.self.invariant.1 in
+    let some : IfSome (Some c.in-Some.answer) (IsAnswer formula) = subst (λ (o : Option Answer). IfSome o (IsAnswer formula)) (sym c.in-Some.ensures.value) c.self.invariant.0 in
     let answer = subst (IsAnswer formula) c.in-Unsat.is some in
     (c.stands.ensures.question c.if-not-stands.false).refutes answer.1

@@ -1,4 +1,4 @@
-use Rattle.std.proofs.Common.{ℕ, subst, Option}
+use Rattle.std.proofs.Common.{◌∙◌, ℕ, subst, Option}
 use Rattle.std.specs.Prelude.{IfNone}
 use borrow.Author.Count.{below_more}
 use Rattle.and_graph.specs.declared.pattern.Pattern.{Pattern}
@@ -22,6 +22,7 @@ loop-frame-preserved c =
     record {
       merged = merged_twice c.args.graph.now c.loop-frame.graph c.settle_or_pose.new.graph was.merged says.merged;
       map = merged_reset c.loop-frame.graph c.settle_or_pose.new.graph c.args.self.now says.merged was.map;
+      most = says.most ∙ was.most;
       holds = below_more (λ (t : ℕ). HoldsInFrame (induction_of c.args.self.now c.args.classes.now) t c.args.member) c.loop-frame.frame was.holds
           (c.base_pair-least.ensures.equal c.loop-frame.graph c.len-nodes.ensures.graph was.map
           (subst (λ (o : Option Pattern). IfNone o (AreEqual c.loop-frame.graph lits.0 lits.1)) c.in-None.is c.in_ok-found.ensures.equal));

@@ -3,7 +3,7 @@ use Rattle.command_line.specs.Asked.{ClimbAsked, climb_asked}
 use Rattle.circ_model.specs.Meaning.{Pair}
 use Rattle.sec_cli.specs.Climbs.{IsReached}
 use Rattle.sec_cli.proofs.Depths.{IsSoFar, goes_on, ends, reaches}
-use Rattle.sec_cli.proofs.climbing.climb_on.Goals as goal
+use Rattle.sec_cli.proofs.climbing.climb_from.Goals as goal
 
 pub loop-k-preserved : goal.loop-k-preserved
 loop-k-preserved g c =
@@ -12,9 +12,9 @@ loop-k-preserved g c =
     let lt : c.loop-k.k < asked.most = omega (arith, c.loop-k-test.true) in
     let two : c.in_ok-answer.answer.status ≡ 2 = omega (arith, c.if-answer-ne2.false) in
     let found = c.in_ok-answer.ensures in
-    let after = c.in_ok-next.ensures in (
+    let after = c.in_ok-reach.ensures in (
       goes_on pair asked c.loop-k.k c.loop-k.before c.in_ok-answer.answer c.loop-k.invariant.0 lt found.answer two,
-      reaches pair asked c.loop-k.k c.in_ok-answer.answer c.in_ok-answer.version c.in_ok-next.next found.answer two found.pair found.k after.agreed after.known,
+      reaches pair asked c.loop-k.k c.in_ok-answer.answer c.in_ok-answer.version c.reach.new.reached found.answer two found.pair found.k after.agreed after.known after.memory,
     )
 
 pub check_at-requires-2-clause-reached : goal.check_at-requires-2-clause-reached
@@ -22,7 +22,7 @@ check_at-requires-2-clause-reached g c = λ lives fits.
     let pair : Pair = c.args.product.now in
     let asked : ClimbAsked = climb_asked c.args.c.now in
     let last : c.loop-k.k ≡ asked.most = omega (arith, c.loop-k-test.false, c.loop-k.invariant.0.few) in
-    subst (λ (n : ℕ). IsReached pair n c.loop-k.known) last c.loop-k.invariant.1
+    subst (λ (n : ℕ). IsReached pair n c.loop-k.reached) last c.loop-k.invariant.1
 
 pub returns-then-answer-ne2-clause-answer : goal.returns-then-answer-ne2-clause-answer
 returns-then-answer-ne2-clause-answer g c =

@@ -1,0 +1,155 @@
+//! Questions that are put aside, and what taking in their answers comes to.
+use and_graph::{Asker, Graph, Halt, Pattern};
+use circ_model::Lit;
+use std::alloc::{AllocError, Global};
+use std::test::Fail;
+
+// The product of so many leaves has a cone that no window holds.
+const LEAVES: u32 = 40;
+
+fn graph_of_leaves(alloc: Global) -> Result<Graph, AllocError> {
+    let mut graph = Graph::new(alloc, 127)?;
+    for _ in 0..LEAVES {
+        graph.leaf()?;
+    }
+    Ok(graph)
+}
+
+// The product of two literals that a graph has.
+fn product(graph: &mut Graph, a: Lit, b: Lit) -> Result<Lit, AllocError> {
+    if a.var() >= graph.len() || b.var() >= graph.len() {
+        return Err(AllocError);
+    }
+    graph.and(a, b)
+}
+
+// The product of all leaves, from one of them on, upwards and then around.
+fn product_from(graph: &mut Graph, first: u32) -> Result<Lit, AllocError> {
+    let mut all = Lit::of(0, true);
+    for n in 0..LEAVES {
+        let leaf = 1 + (first % LEAVES + n) % LEAVES;
+        all = product(graph, all, Lit::of(leaf, false))?;
+    }
+    Ok(all)
+}
+
+// Three products of all leaves, each from another leaf on.
+fn products(graph: &mut Graph) -> Result<[Lit; 3], AllocError> {
+    let mut all = [Lit::of(0, true); 3];
+    for i in 0..3 {
+        all[i] = product_from(graph, 13 * i as u32)?;
+    }
+    Ok(all)
+}
+
+fn ask(
+    alloc: Global,
+    graph: &mut Graph,
+    asker: &mut Asker,
+    a: Lit,
+    b: Lit,
+) -> Result<Option<Pattern>, Halt> {
+    if a.var() >= graph.len() || b.var() >= graph.len() {
+        return Err(Halt::Memory);
+    }
+    graph.difference_or_pose(alloc, asker, a, b)
+}
+
+// Whether a question is put aside.
+fn is_put_aside(alloc: Global, graph: &mut Graph, asker: &mut Asker, a: Lit, b: Lit) -> bool {
+    match ask(alloc, graph, asker, a, b) {
+        Err(Halt::Posed) => true,
+        _ => false,
+    }
+}
+
+// Whether two literals are found equal at once.
+fn is_equal(alloc: Global, graph: &mut Graph, asker: &mut Asker, a: Lit, b: Lit) -> bool {
+    match ask(alloc, graph, asker, a, b) {
+        Ok(None) => true,
+        _ => false,
+    }
+}
+
+// Whether what is put aside is solved, and its answer taken in by a graph.
+fn is_taken(alloc: Global, graph: &mut Graph, asker: &mut Asker) -> bool {
+    asker.solve(alloc).is_ok() && graph.take_answer(alloc, asker).is_ok()
+}
+
+// Whether a graph has one node for two literals.
+fn are_same(graph: &Graph, a: Lit, b: Lit) -> bool {
+    a.var() < graph.len() && b.var() < graph.len() && graph.same(a, b)
+}
+
+// Whether the second and the third of three products are merged, and the first with them, or not.
+fn are_merged(graph: &Graph, all: [Lit; 3], first: bool) -> bool {
+    are_same(graph, all[1], all[2]) && are_same(graph, all[0], all[1]) == first
+}
+
+// Whether another asker puts a question aside, and its answer is taken in at once.
+fn is_merged(alloc: Global, graph: &mut Graph, a: Lit, b: Lit) -> bool {
+    match Asker::posing(alloc, 2) {
+        Ok(mut asker) => {
+            is_put_aside(alloc, graph, &mut asker, a, b) && is_taken(alloc, graph, &mut asker)
+        }
+        Err(_) => false,
+    }
+}
+
+// Whether the question about two of three products is put aside, and its answer taken in after others were merged, or not.
+fn is_settled(
+    alloc: Global,
+    graph: &mut Graph,
+    asker: &mut Asker,
+    all: [Lit; 3],
+    merges: bool,
+) -> bool {
+    is_put_aside(alloc, graph, asker, all[1], all[2])
+        && (!merges || is_merged(alloc, graph, all[0], all[1]))
+        && is_taken(alloc, graph, asker)
+}
+
+fn comes_to_one(alloc: Global, merges: bool) -> Result<bool, AllocError> {
+    let mut graph = graph_of_leaves(alloc)?;
+    let all = products(&mut graph)?;
+    let mut asker = Asker::posing(alloc, 2)?;
+    let settled = is_settled(alloc, &mut graph, &mut asker, all, merges);
+    Ok(settled && are_merged(&graph, all, merges))
+}
+
+#[test]
+fn the_answer_to_a_question_that_was_put_aside_merges(rt: HostRuntime) -> Result<(), Fail> {
+    for merges in [false, true] {
+        assert!(rt; comes_to_one(rt.alloc(), merges)?);
+    }
+    Ok(())
+}
+
+// Whether what is put aside is solved, and its answer taken in by a graph that doesn't have its nodes.
+fn is_taken_elsewhere(alloc: Global, asker: &mut Asker) -> bool {
+    match graph_of_leaves(alloc) {
+        Ok(mut other) => is_taken(alloc, &mut other, asker),
+        Err(_) => false,
+    }
+}
+
+// Whether the question about two products is put aside, and has to be asked again.
+fn is_asked_again(alloc: Global, graph: &mut Graph, asker: &mut Asker, a: Lit, b: Lit) -> bool {
+    is_put_aside(alloc, graph, asker, a, b)
+        && is_taken_elsewhere(alloc, asker)
+        && !are_same(graph, a, b)
+        && is_equal(alloc, graph, asker, a, b)
+}
+
+fn comes_to_nothing(alloc: Global) -> Result<bool, AllocError> {
+    let mut graph = graph_of_leaves(alloc)?;
+    let all = products(&mut graph)?;
+    let mut asker = Asker::posing(alloc, 2)?;
+    Ok(is_asked_again(alloc, &mut graph, &mut asker, all[0], all[1]))
+}
+
+#[test]
+fn an_answer_that_does_not_stand_is_not_taken(rt: HostRuntime) -> Result<(), Fail> {
+    assert!(rt; comes_to_nothing(rt.alloc())?);
+    Ok(())
+}
