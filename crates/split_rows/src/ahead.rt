@@ -12,10 +12,8 @@ use step_lanes::LaneRows;
 // So many frames are simulated at most.
 const MOST: u32 = 1024;
 
-// Each step of so many frames has to add so many classes for every so many places.
+// Each step of so many frames has to add a part.
 const STEP: u32 = 16;
-
-const SHARE: u32 = 300;
 
 // A reset of all runs, whose free latches are drawn.
 fn draw_reset(
@@ -54,11 +52,10 @@ fn next_rows<'p>(
     LaneRows::of_runs(alloc, product, k, sim)
 }
 
-// How many classes the frames since the last step added, and how many they have to.
+// How many parts the frames since the last step added, and whether runs go on.
 #[derive(Drop)]
 struct Pace {
     added: u32,
-    enough: u32,
     goes: bool,
 }
 
@@ -66,7 +63,7 @@ impl Pace {
     // Whether runs are to go on after so many frames.
     fn goes_on(&mut self, frames: u32) -> bool {
         if frames > 0 && frames % STEP == 0 {
-            self.goes = self.goes && self.added > self.enough;
+            self.goes = self.goes && self.added > 0;
             self.added = 0;
         }
         self.goes
@@ -93,7 +90,6 @@ impl<'p> SplitRows<'p> {
         let (product, k) = (self.product, self.k);
         let mut pace = Pace {
             added: 0,
-            enough: product.len() / SHARE,
             goes: true,
         };
         for t in 0..MOST {

@@ -5,6 +5,7 @@
 #![tactic(auto)]
 
 mod ahead;
+mod left;
 mod model;
 mod rows;
 mod words;

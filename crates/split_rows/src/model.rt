@@ -63,11 +63,12 @@ impl<'p> SplitRows<'p> {
         requires keeps { KeepsGreatest lanes.now.pair lanes.now.k lanes.now.classes }
         ensures { self.new ≡ self.old }
     {
-        if !self.is_split_by(lanes.words(), lanes.lanes()) {
+        let splitting = self.split_by(lanes.words(), lanes.lanes())?;
+        if splitting == 0 {
             return Ok(false);
         }
         if let Some(block) = LaneRows::of_step(alloc, lanes)? {
-            self.take(alloc, block)?;
+            self.keep(alloc, block, splitting)?;
         }
         Ok(true)
     }

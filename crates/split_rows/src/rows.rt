@@ -1,10 +1,11 @@
 //! The rows that are held, and what they leave of a version's classes.
-ghost use Rattle.std.specs.Prelude.{◌≡◌, ◌<◌, ◌≤◌, IfOk, IfSome, length};
+ghost use Rattle.std.specs.Prelude.{◌≡◌, ◌<◌, ◌≤◌, IsTrue, IfOk, IfSome, length};
 ghost use Rattle.circ_model.specs.Meaning.{places_of};
 ghost use Rattle.class_partition.specs.Classes.{KeepsGreatest, least_of};
+ghost use Rattle.sim_words.specs.Lanes.{lane_bit};
 ghost use Rattle.split_rows.specs.Rows.{IsRowApart};
 
-use crate::words::{is_splitting, split_by_block};
+use crate::left::{Left, lane_word};
 use bit_rows::BitRow;
 use class_partition::{Classes, Needed};
 use product_machine::Product;
@@ -14,6 +15,9 @@ use std::marker::Model;
 use std::mem;
 use step_lanes::LaneRows;
 
+// So many rows of a block are held as rows; more, as the block.
+const MANY: u32 = 16;
+
 /// Rows of a pair's places, 64 in a block, each of which may split any classes that separate no pair of the greatest
 /// correspondence. A block is held while it splits the classes that are refined.
 #[derive(Drop)]
@@ -22,7 +26,7 @@ pub struct SplitRows<'p> {
     pub(crate) k: u32,
     pub(crate) blocks: Vec<LaneRows<'p>>,
     // what the blocks leave of the classes that are refined: a hint
-    pub(crate) left: Option<Classes>,
+    pub(crate) left: Option<Left>,
     pub(crate) stimulus: Stimulus,
     // a state of each run, and the inputs from there on, from which models are filled in
     pub(crate) reached: Vec<u64>,
@@ -60,6 +64,21 @@ fn row_apart(
     }
 }
 
+// Has a lane that is free hold the row of another block's lane, where there is one.
+fn add_row(block: &mut LaneRows<'_>, rows: &LaneRows<'_>, from: u32)
+    requires pair { rows.now.pair ≡ block.old.pair }
+    requires k { rows.now.k ≡ block.old.k }
+    requires from { from < 64 }
+    requires mask { IsTrue (lane_bit from rows.now.mask) }
+    ensures pair { block.new.pair ≡ block.old.pair }
+    ensures k { block.new.k ≡ block.old.k }
+{
+    let lane = block.mask().trailing_ones();
+    if lane < 64 {
+        block.put(lane, rows, from);
+    }
+}
+
 impl<'p> SplitRows<'p> {
     /// No rows yet of this pair, for induction over k frames.
     pub fn new(alloc: Global, product: &'p Product, k: u32) -> SplitRows<'p>
@@ -81,7 +100,7 @@ impl<'p> SplitRows<'p> {
     pub fn turn_to(&mut self, alloc: Global, classes: &Classes) -> Result<(), AllocError>
         ensures { self.new ≡ self.old }
     {
-        let left = classes.copy(alloc)?;
+        let left = Left::of(alloc, classes)?;
         self.left = Some(left);
         let mut blocks = mem::replace(&mut self.blocks, Vec::new(alloc));
         while let Some(block) = blocks.pop() {
@@ -90,41 +109,120 @@ impl<'p> SplitRows<'p> {
         Ok(())
     }
 
-    // Whether rows in the lanes of a mask seem to split what the blocks leave.
-    pub(crate) fn is_split_by(&self, words: &[u64], mask: u64) -> bool {
+    // How many places no row that is held separates from the least of their part.
+    fn members(&self) -> usize {
         match &self.left {
-            Some(left) => is_splitting(left, words, mask),
-            None => false,
+            Some(left) => left.members(),
+            None => 0,
         }
     }
 
-    // Takes a block in, where it splits what the others leave. Answers how many classes it adds.
+    // Splits what the rows leave by those in the lanes of a mask. Answers the lanes of those that split it.
+    pub(crate) fn split_by(&mut self, words: &[u64], mask: u64) -> Result<u64, AllocError>
+        ensures { self.new ≡ self.old }
+    {
+        match &mut self.left {
+            Some(left) => left.split_by(words, mask),
+            None => Ok(0),
+        }
+    }
+
+    // Takes a block in, as far as it splits what the others leave. Answers how many parts that adds.
     pub(crate) fn take(&mut self, alloc: Global, block: LaneRows<'p>) -> Result<u32, AllocError>
         requires pair { block.pair ≡ self.old.pair }
         requires k { block.k ≡ self.old.k }
         ensures { self.new ≡ self.old }
     {
-        if !self.is_split_by(block.words(), block.mask()) {
-            return Ok(0);
-        }
-        let added = match &mut self.left {
-            Some(left) => split_by_block(alloc, left, &block)?,
-            None => 0,
-        };
-        if added > 0 {
+        let before = self.members();
+        let lanes = self.split_by(block.words(), block.mask())?;
+        self.keep(alloc, block, lanes)?;
+        Ok(before.saturating_sub(self.members()).min(u32::MAX as usize) as u32)
+    }
+
+    // Holds the rows in some lanes of a block: the block, where they are many, and else each in a lane that is free.
+    pub(crate) fn keep(
+        &mut self,
+        alloc: Global,
+        block: LaneRows<'p>,
+        lanes: u64,
+    ) -> Result<(), AllocError>
+        requires pair { block.pair ≡ self.old.pair }
+        requires k { block.k ≡ self.old.k }
+        ensures { self.new ≡ self.old }
+    {
+        if lanes.count_ones() > MANY {
             self.blocks.push(block)?;
+            return Ok(());
         }
-        Ok(added)
+        let kept = self.keep_rows(alloc, &block, lanes);
+        drop(block);
+        kept
+    }
+
+    // Holds the rows in some lanes of a block, each in a lane that is free.
+    fn keep_rows(
+        &mut self,
+        alloc: Global,
+        block: &LaneRows<'p>,
+        lanes: u64,
+    ) -> Result<(), AllocError>
+        requires pair { block.now.pair ≡ self.old.pair }
+        requires k { block.now.k ≡ self.old.k }
+        ensures { self.new ≡ self.old }
+    {
+        for lane in 0..64 {
+            if lanes & lane_word(lane) != 0 && block.has(lane) {
+                self.keep_row(alloc, block, lane)?;
+            }
+        }
+        Ok(())
+    }
+
+    // The last block, where it has a lane that is free.
+    fn take_free(&mut self) -> Option<LaneRows<'p>>
+        ensures kept { self.new ≡ self.old }
+        ensures block { IfSome result (λ b. (b.pair ≡ self.old.pair) × (b.k ≡ self.old.k)) }
+    {
+        let has_free = match self.blocks.last() {
+            Some(block) => block.mask() != !0,
+            None => false,
+        };
+        if has_free {
+            return self.blocks.pop();
+        }
+        None
+    }
+
+    // The last block, where it has a lane that is free, or else a new one.
+    fn free_block(&mut self, alloc: Global) -> Result<LaneRows<'p>, AllocError>
+        ensures kept { self.new ≡ self.old }
+        ensures pair { IfOk result (λ b. b.pair ≡ self.old.pair) }
+        ensures k { IfOk result (λ b. b.k ≡ self.old.k) }
+    {
+        match self.take_free() {
+            Some(block) => Ok(block),
+            None => LaneRows::new(alloc, self.product, self.k),
+        }
+    }
+
+    // Holds the row of a lane.
+    fn keep_row(&mut self, alloc: Global, rows: &LaneRows<'p>, from: u32) -> Result<(), AllocError>
+        requires pair { rows.now.pair ≡ self.old.pair }
+        requires k { rows.now.k ≡ self.old.k }
+        requires from { from < 64 }
+        requires mask { IsTrue (lane_bit from rows.now.mask) }
+        ensures { self.new ≡ self.old }
+    {
+        let mut block = self.free_block(alloc)?;
+        add_row(&mut block, rows, from);
+        self.blocks.push(block)?;
+        Ok(())
     }
 
     // Whether the rows seem to separate a pair.
     fn is_apart(&self, pair: Needed) -> bool {
         match &self.left {
-            Some(left) => {
-                pair.member < left.len()
-                    && pair.rep < left.len()
-                    && !left.same(pair.rep, pair.member)
-            }
+            Some(left) => left.is_apart(pair.rep, pair.member),
             None => false,
         }
     }

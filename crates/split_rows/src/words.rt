@@ -8,49 +8,12 @@ use frame_graph::Leaf;
 use pair_sweep::FreeBit;
 use product_machine::{Cell, Product};
 use std::alloc::{AllocError, Global};
-use step_lanes::LaneRows;
 
 // So many places that break the classes are told of a model at most.
 const MOST: usize = 16;
 
 // Half of the lanes.
 const LOW: u64 = 0xffff_ffff;
-
-// A place's word in which the lanes outside a mask have the place's phase: they split nothing.
-fn within(word: u64, mask: u64, phase: bool) -> u64 {
-    let outside = if phase { !mask } else { 0 };
-    (word & mask) | outside
-}
-
-// Whether some place differs from its class's least place in a lane of the mask, each with its phase.
-pub(crate) fn is_splitting(classes: &Classes, words: &[u64], mask: u64) -> bool {
-    for p in 0..classes.len() {
-        let rep = classes.rep(p);
-        let apart = word_at(words, rep as usize) ^ word_at(words, p as usize);
-        let turned = word_of(classes.phase(rep) != classes.phase(p));
-        if (apart ^ turned) & mask != 0 {
-            return true;
-        }
-    }
-    false
-}
-
-// Splits classes by the rows of a block. Answers how many classes that adds.
-pub(crate) fn split_by_block(
-    alloc: Global,
-    classes: &mut Classes,
-    block: &LaneRows<'_>,
-) -> Result<u32, AllocError> {
-    let mut words = Vec::from_slice(alloc, block.words())?;
-    let places = classes.len();
-    if words.len() != places as usize {
-        return Ok(0);
-    }
-    for p in 0..places {
-        words[p as usize] = within(words[p as usize], block.mask(), classes.phase(p));
-    }
-    classes.split_by_words(alloc, words.as_slice())
-}
 
 // The word of a bit that all lanes have.
 fn word_of(bit: bool) -> u64 {
@@ -106,7 +69,7 @@ pub(crate) fn drawn_among(reached: &[u64], start: &mut [u64])
 }
 
 // The word at a position; past the end zeros.
-fn word_at(words: &[u64], at: usize) -> u64 {
+pub(crate) fn word_at(words: &[u64], at: usize) -> u64 {
     if at < words.len() { words[at] } else { 0 }
 }
 

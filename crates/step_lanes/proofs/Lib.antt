@@ -2,3 +2,4 @@ pub mod MaskedLanes
 pub mod GoingOn
 pub mod PathLanes
 pub mod Apart
+pub mod Copied

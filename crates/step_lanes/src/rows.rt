@@ -1,6 +1,6 @@
 //! Rows that may split, 64 at once, kept beyond the classes that they were found under: a pair of any later version is tried on
 //! them in a few operations on words before anything is asked.
-ghost use Rattle.std.specs.Prelude.{◌≡◌, ◌<◌, ◌-◌, ◌^◌, ◌==◌, ℕ, Some, None, IsTrue, IfOk, length, if◌then◌else◌};
+ghost use Rattle.std.specs.Prelude.{◌≡◌, ◌≢◌, ◌<◌, ◌-◌, ◌^◌, ◌==◌, ℕ, Some, None, IsTrue, IfOk, length, if◌then◌else◌};
 ghost use Rattle.circ_model.specs.Meaning.{places_of};
 ghost use Rattle.circ_model.specs.Correspondence.{MaySplit};
 ghost use Rattle.class_partition.specs.Classes.{KeepsGreatest, least_of};
@@ -81,6 +81,41 @@ impl<'p> LaneRows<'p> {
         })
     }
 
+    /// No rows: the mask has no lane.
+    pub fn new(alloc: Global, product: &'p Product, k: u32) -> Result<LaneRows<'p>, AllocError>
+        ensures pair { IfOk result (λ r. r.pair ≡ product.entry.now) }
+        ensures k { IfOk result (λ r. r.k ≡ k) }
+        ensures none { IfOk result (λ r. r.mask ≡ 0) }
+    {
+        let words = vec![in alloc; 0u64; product.len() as usize]?;
+        Ok(LaneRows {
+            product,
+            depth: k,
+            mask: 0,
+            words,
+        })
+    }
+
+    /// Has a lane hold what other rows of the same pair and k have in a lane of their mask. It takes time linear in the number of
+    /// places.
+    pub fn put(&mut self, to: u32, rows: &LaneRows<'_>, from: u32)
+        requires to { to < 64 }
+        requires from { from < 64 }
+        requires pair { rows.now.pair ≡ self.old.pair }
+        requires k { rows.now.k ≡ self.old.k }
+        requires mask { IsTrue (lane_bit from rows.now.mask) }
+        ensures pair { self.new.pair ≡ self.old.pair }
+        ensures k { self.new.k ≡ self.old.k }
+        ensures row { lane to self.new.words ≡ lane from rows.now.words }
+        ensures others { (b : ℕ) → b < 64 → b ≢ to → lane b self.new.words ≡ lane b self.old.words }
+        ensures mask { IsTrue (lane_bit to self.new.mask) }
+        ensures masks { (b : ℕ) → b < 64 → b ≢ to → lane_bit b self.new.mask ≡ lane_bit b self.old.mask }
+    {
+        let _other = rows.product();
+        copy_lane(&mut self.words, to, rows.words.as_slice(), from);
+        self.mask = with_lane(self.mask, to, true);
+    }
+
     /// The lowest lane of the mask whose row separates a needed pair, or none if the pair holds in all of them. It takes a few
     /// operations on words.
     pub fn apart(&self, classes: &Classes, pair: Needed) -> Option<u32>
@@ -131,6 +166,14 @@ impl<'p> LaneRows<'p> {
         self.words.as_slice()
     }
 
+    /// Whether a lane is one of the mask.
+    pub fn has(&self, at: u32) -> bool
+        requires { at < 64 }
+        ensures { result ≡ lane_bit at self.now.mask }
+    {
+        has_lane(self.mask, at)
+    }
+
     /// The lanes whose rows may split.
     pub fn mask(&self) -> u64
         ensures mask { result ≡ self.now.mask }
@@ -148,6 +191,42 @@ fn first_lane(lanes: u64) -> Option<u32>
         None
     } else {
         Some(lanes.trailing_zeros())
+    }
+}
+
+// The word with the bit of a lane written.
+fn with_lane(word: u64, at: u32, bit: bool) -> u64
+    requires { at < 64 }
+    ensures written { lane_bit at result ≡ bit }
+    ensures others { (b : ℕ) → b < 64 → b ≢ at → lane_bit b result ≡ lane_bit b word }
+{
+    if bit {
+        word | (1 << at)
+    } else {
+        word & !(1 << at)
+    }
+}
+
+// The bit of a lane.
+fn has_lane(word: u64, at: u32) -> bool
+    requires { at < 64 }
+    ensures { result ≡ lane_bit at word }
+{
+    (word >> at) & 1 == 1
+}
+
+// Writes a lane of words, as a lane of others is.
+fn copy_lane(words: &mut Vec<u64>, to: u32, others: &[u64], from: u32)
+    requires to { to < 64 }
+    requires from { from < 64 }
+    requires size { length words.old.items ≡ length others.now }
+    ensures size { length words.new.items ≡ length words.old.items }
+    ensures row { lane to words.new.items ≡ lane from others.now }
+    ensures rest { (b : ℕ) → b < 64 → b ≢ to → lane b words.new.items ≡ lane b words.old.items }
+{
+    for p in 0..words.len() {
+        let word = with_lane(words[p], to, has_lane(others[p], from));
+        words[p] = word;
     }
 }
 

@@ -1,4 +1,4 @@
-use Rattle.std.proofs.Common.{◌≡◌, ◌∙◌, ap, arith, subst}
+use Rattle.std.proofs.Common.{arith, subst}
 use Rattle.pair_sweep.specs.Sweeps.{Extent}
 use Rattle.split_rows.specs.Rows.{IsRowApart}
 use Rattle.split_rows.proofs.Held.{of_block, row_of}

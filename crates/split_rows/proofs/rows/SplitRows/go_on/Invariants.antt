@@ -1,4 +1,4 @@
-use Rattle.std.proofs.Common.{◌≡◌, ◌≤◌, ◌+◌, length}
+use Rattle.std.proofs.Common.{◌≡◌, ◌+◌, length}
 use Rattle.split_rows.proofs.rows.SplitRows.go_on.Given as goal
 
 abbrev pub invariant-loop : goal.invariant-loop
