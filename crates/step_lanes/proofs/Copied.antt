@@ -25,8 +25,8 @@ rows_with_one r s to from mask words is other ep ek lt on size row rest masks =
       places = size ∙ is.places;
       may = λ b less here. ⊎_elim
           (λ (e : b ≡ to). subst (λ (n : ℕ). MaySplit r.pair r.k (lane n words)) (sym e)
-              (subst (MaySplit r.pair r.k) (sym row)
-              (subst (λ (p : Pair). MaySplit p r.k (lane from s.words)) ep (subst (λ (n : ℕ). MaySplit s.pair n (lane from s.words)) ek (other.may from lt on)))))
+          (subst (MaySplit r.pair r.k) (sym row)
+          (subst (λ (p : Pair). MaySplit p r.k (lane from s.words)) ep (subst (λ (n : ℕ). MaySplit s.pair n (lane from s.words)) ek (other.may from lt on)))))
           (λ (ne : b ≢ to). subst (MaySplit r.pair r.k) (sym (rest b less ne)) (is.may b less (sym (masks b less ne) ∙ here)))
           (cases_eq b to);
     }
