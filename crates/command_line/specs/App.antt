@@ -7,6 +7,10 @@ use Rattle.clap.specs.declared.builder.action.ArgAction.TheVariants.{Set, SetTru
 use Rattle.clap.specs.declared.builder.command.Command.{Command}
 use Rattle.clap.specs.declared.builder.command.Command.TheViews.{out-Command as fields_of}
 use Rattle.clap.specs.declared.builder.value_parser.ValueParser.TheVariants as readers
+use Rattle.command_line.specs.declared.app.Part.{Part}
+use Rattle.command_line.specs.declared.app.Part.TheVariants as parts
+use Rattle.command_line.specs.declared.app.Subcommand.{Subcommand}
+use Rattle.command_line.specs.declared.app.Subcommand.TheVariants as subcommands
 use Rattle.command_line.specs.Asked.{most_depth, most_search_depth, most_size, most_workers}
 
 -- how an argument is spelled: a name by its place, an option as `-k` or as `--trace`
@@ -114,6 +118,20 @@ with_options app options = fold (λ a o. with_rule a (option_rule o)) app option
 abbrev pub app_for : Line → App
 app_for l = with_options (with_names (new_app l.command) l.names) l.options
 
+-- the rule of a part of a command
+abbrev pub part_rule : Part → Rule
+part_rule (parts.Name id) = name_rule (name id.now)
+part_rule parts.Size = name_rule size
+part_rule parts.Depth = option_rule depth
+part_rule parts.SearchDepth = option_rule search_depth
+part_rule parts.Most = option_rule most
+part_rule parts.Workers = option_rule workers
+part_rule (parts.Flag id) = option_rule (flag id.now)
+part_rule (parts.File id) = option_rule (file id.now)
+
+abbrev pub with_parts : App → List Part → App
+with_parts app ps = fold (λ a p. with_rule a (part_rule p)) app ps
+
 unfoldable pub check_app : App
 check_app = app_for check_line
 
@@ -134,6 +152,18 @@ reduce_app = app_for reduce_line
 
 unfoldable pub batch_app : App
 batch_app = app_for batch_line
+
+abbrev pub subcommand_app : Subcommand → App
+subcommand_app subcommands.Check = check_app
+subcommand_app subcommands.Replay = replay_app
+subcommand_app subcommands.Verify = verify_app
+subcommand_app subcommands.Demo = demo_app
+subcommand_app subcommands.Climb = climb_app
+subcommand_app subcommands.Reduce = reduce_app
+subcommand_app subcommands.Batch = batch_app
+
+abbrev pub with_subcommands : App → List Subcommand → App
+with_subcommands app all = fold (λ a s. with_subcommand a (subcommand_app s).top) app all
 
 abbrev pub with_required_subcommand : App → App
 with_required_subcommand a = on_top (λ (s : Shape). record s { subcommand_required = true }) a

@@ -1,7 +1,7 @@
 // The command that is given to clap: a required subcommand for each line of the usage text. Its own help is clap's.
 ghost use Rattle.std.specs.Prelude.{◌≡◌, [], ◌∷◌, codes, false, IfOk};
-ghost use Rattle.clap.specs.Words.{rule_of};
-ghost use Rattle.command_line.specs.App.{name, size, number, depth, search_depth, most, workers, file, flag, name_rule, option_rule, check_app, replay_app, verify_app, demo_app, climb_app, reduce_app, batch_app, sec_app, IsCommand};
+ghost use Rattle.clap.specs.Words.{App, new_app, rule_of};
+ghost use Rattle.command_line.specs.App.{name, size, number, depth, search_depth, most, workers, file, flag, name_rule, option_rule, check_app, replay_app, verify_app, demo_app, climb_app, reduce_app, batch_app, sec_app, part_rule, with_parts, subcommand_app, with_subcommands, IsCommand};
 
 use crate::command::{MOST_DEPTH, MOST_SEARCH_DEPTH, MOST_SIZE, MOST_WORKERS};
 use clap::builder::ValueParser;
@@ -82,94 +82,205 @@ fn flag_arg<'a>(alloc: Global, id: &'a str) -> Arg<'a>
     Arg::new(alloc, id).long(id).action(ArgAction::SetTrue)
 }
 
+// A name or an option of a command.
+#[derive(Clone, Copy)]
+enum Part<'a> {
+    Name(&'a str),
+    Size,
+    Depth,
+    SearchDepth,
+    Most,
+    Workers,
+    Flag(&'a str),
+    File(&'a str),
+}
+
+fn part_arg<'a>(alloc: Global, part: Part<'a>) -> Arg<'a>
+    ensures rule { rule_of result ≡ part_rule part.entry }
+    ensures local { result.global ≡ false }
+{
+    match part {
+        Part::Name(id) => name_arg(alloc, id),
+        Part::Size => size_arg(alloc),
+        Part::Depth => depth_arg(alloc),
+        Part::SearchDepth => search_depth_arg(alloc),
+        Part::Most => most_arg(alloc),
+        Part::Workers => workers_arg(alloc),
+        Part::Flag(id) => flag_arg(alloc, id),
+        Part::File(id) => file_arg(alloc, id),
+    }
+}
+
+// The command of these parts.
+fn command_of<'a>(
+    alloc: Global,
+    name: &'a str,
+    parts: &[Part<'a>],
+) -> Result<Command<'a>, AllocError>
+    ensures { IfOk result (IsCommand (with_parts (new_app name.entry.now) parts.entry.now)) }
+{
+    let mut command = Command::new(alloc, name);
+    for at in 0..parts.len() {
+        command = command.arg(part_arg(alloc, parts[at]))?;
+    }
+    Ok(command)
+}
+
 fn check_command<'a>(alloc: Global) -> Result<Command<'a>, AllocError>
     ensures { IfOk result (IsCommand check_app) }
 {
-    Command::new(alloc, "check")
-        .arg(name_arg(alloc, "LEFT"))?
-        .arg(name_arg(alloc, "RIGHT"))?
-        .arg(depth_arg(alloc))?
-        .arg(search_depth_arg(alloc))?
-        .arg(workers_arg(alloc))?
-        .arg(flag_arg(alloc, "classes"))?
-        .arg(flag_arg(alloc, "stats"))?
-        .arg(file_arg(alloc, "trace"))?
-        .arg(file_arg(alloc, "cert"))?
-        .arg(flag_arg(alloc, "tie"))?
-        .arg(flag_arg(alloc, "least"))
+    command_of(
+        alloc,
+        "check",
+        &[
+            Part::Name("LEFT"),
+            Part::Name("RIGHT"),
+            Part::Depth,
+            Part::SearchDepth,
+            Part::Workers,
+            Part::Flag("classes"),
+            Part::Flag("stats"),
+            Part::File("trace"),
+            Part::File("cert"),
+            Part::Flag("tie"),
+            Part::Flag("least"),
+        ],
+    )
 }
 
 fn replay_command<'a>(alloc: Global) -> Result<Command<'a>, AllocError>
     ensures { IfOk result (IsCommand replay_app) }
 {
-    Command::new(alloc, "replay")
-        .arg(name_arg(alloc, "LEFT"))?
-        .arg(name_arg(alloc, "RIGHT"))?
-        .arg(name_arg(alloc, "TRACE"))?
-        .arg(flag_arg(alloc, "tie"))
+    command_of(
+        alloc,
+        "replay",
+        &[
+            Part::Name("LEFT"),
+            Part::Name("RIGHT"),
+            Part::Name("TRACE"),
+            Part::Flag("tie"),
+        ],
+    )
 }
 
 fn verify_command<'a>(alloc: Global) -> Result<Command<'a>, AllocError>
     ensures { IfOk result (IsCommand verify_app) }
 {
-    Command::new(alloc, "verify")
-        .arg(name_arg(alloc, "LEFT"))?
-        .arg(name_arg(alloc, "RIGHT"))?
-        .arg(name_arg(alloc, "CERT"))?
-        .arg(flag_arg(alloc, "tie"))
+    command_of(
+        alloc,
+        "verify",
+        &[
+            Part::Name("LEFT"),
+            Part::Name("RIGHT"),
+            Part::Name("CERT"),
+            Part::Flag("tie"),
+        ],
+    )
 }
 
 fn demo_command<'a>(alloc: Global) -> Result<Command<'a>, AllocError>
     ensures { IfOk result (IsCommand demo_app) }
 {
-    Command::new(alloc, "demo")
-        .arg(size_arg(alloc))?
-        .arg(depth_arg(alloc))?
-        .arg(workers_arg(alloc))
+    command_of(alloc, "demo", &[Part::Size, Part::Depth, Part::Workers])
 }
 
 fn climb_command<'a>(alloc: Global) -> Result<Command<'a>, AllocError>
     ensures { IfOk result (IsCommand climb_app) }
 {
-    Command::new(alloc, "climb")
-        .arg(name_arg(alloc, "LEFT"))?
-        .arg(name_arg(alloc, "RIGHT"))?
-        .arg(most_arg(alloc))?
-        .arg(workers_arg(alloc))?
-        .arg(flag_arg(alloc, "least"))
+    command_of(
+        alloc,
+        "climb",
+        &[
+            Part::Name("LEFT"),
+            Part::Name("RIGHT"),
+            Part::Most,
+            Part::Workers,
+            Part::Flag("least"),
+        ],
+    )
 }
 
 fn reduce_command<'a>(alloc: Global) -> Result<Command<'a>, AllocError>
     ensures { IfOk result (IsCommand reduce_app) }
 {
-    Command::new(alloc, "reduce")
-        .arg(name_arg(alloc, "NET"))?
-        .arg(name_arg(alloc, "OUT"))?
-        .arg(depth_arg(alloc))?
-        .arg(workers_arg(alloc))?
-        .arg(flag_arg(alloc, "binary"))
+    command_of(
+        alloc,
+        "reduce",
+        &[
+            Part::Name("NET"),
+            Part::Name("OUT"),
+            Part::Depth,
+            Part::Workers,
+            Part::Flag("binary"),
+        ],
+    )
 }
 
 fn batch_command<'a>(alloc: Global) -> Result<Command<'a>, AllocError>
     ensures { IfOk result (IsCommand batch_app) }
 {
-    Command::new(alloc, "batch")
-        .arg(name_arg(alloc, "LIST"))?
-        .arg(depth_arg(alloc))?
-        .arg(workers_arg(alloc))
+    command_of(
+        alloc,
+        "batch",
+        &[Part::Name("LIST"), Part::Depth, Part::Workers],
+    )
+}
+
+// The commands by their names.
+#[derive(Clone, Copy)]
+enum Subcommand {
+    Check,
+    Replay,
+    Verify,
+    Demo,
+    Climb,
+    Reduce,
+    Batch,
+}
+
+fn command_named<'a>(alloc: Global, named: Subcommand) -> Result<Command<'a>, AllocError>
+    ensures { IfOk result (IsCommand (subcommand_app named)) }
+{
+    match named {
+        Subcommand::Check => check_command(alloc),
+        Subcommand::Replay => replay_command(alloc),
+        Subcommand::Verify => verify_command(alloc),
+        Subcommand::Demo => demo_command(alloc),
+        Subcommand::Climb => climb_command(alloc),
+        Subcommand::Reduce => reduce_command(alloc),
+        Subcommand::Batch => batch_command(alloc),
+    }
+}
+
+fn with_subcommands<'a>(
+    alloc: Global,
+    command: Command<'a>,
+    all: &[Subcommand],
+) -> Result<Command<'a>, AllocError>
+    ensures { (app : App) → IsCommand app command.entry → IfOk result (IsCommand (with_subcommands app all.now)) }
+{
+    let mut command = command;
+    for at in 0..all.len() {
+        command = command.subcommand(command_named(alloc, all[at])?)?;
+    }
+    Ok(command)
 }
 
 /// The whole command.
 pub(crate) fn sec_command<'a>(alloc: Global) -> Result<Command<'a>, AllocError>
     ensures { IfOk result (IsCommand sec_app) }
 {
-    Command::new(alloc, "sec")
-        .subcommand_required(true)
-        .subcommand(check_command(alloc)?)?
-        .subcommand(replay_command(alloc)?)?
-        .subcommand(verify_command(alloc)?)?
-        .subcommand(demo_command(alloc)?)?
-        .subcommand(climb_command(alloc)?)?
-        .subcommand(reduce_command(alloc)?)?
-        .subcommand(batch_command(alloc)?)
+    with_subcommands(
+        alloc,
+        Command::new(alloc, "sec").subcommand_required(true),
+        &[
+            Subcommand::Check,
+            Subcommand::Replay,
+            Subcommand::Verify,
+            Subcommand::Demo,
+            Subcommand::Climb,
+            Subcommand::Reduce,
+            Subcommand::Batch,
+        ],
+    )
 }
