@@ -3,6 +3,8 @@ use Rattle.std.specs.Prelude.{◌≡◌, ℕ, Bool, true, false, if◌then◌els
 use Rattle.std.specs.Str.Parse.{digits_value, without_leading_plus}
 use Rattle.clap.specs.Words.{Kinds, Row, fault_of, first_of, one_of, subcommand_of}
 use Rattle.clap.specs.ValueTests.{is_unsigned_in}
+use Rattle.command_line.specs.declared.app.Subcommand.{Subcommand}
+use Rattle.command_line.specs.declared.app.Subcommand.TheVariants as subcommands
 use Rattle.command_line.specs.Asked.{Asked, Values, batch_of, check_of, climb_of, demo_of, reduce_of, replay_of, verify_of}
 use Rattle.command_line.specs.App.{batch_line, check_line, climb_line, demo_line, reduce_line, replay_line, sec_app, verify_line}
 use Rattle.command_line.specs.Plain.{plain_command}
@@ -31,6 +33,20 @@ values_matched rows = record {
   optional = λ id most. number_of id 1 most rows;
   flag = λ id. has_flag id rows;
 }
+
+-- what the values ask for under each subcommand
+abbrev pub asked_under : Subcommand → Values → Option Asked
+asked_under subcommands.Check v = check_of v
+asked_under subcommands.Replay v = replay_of v
+asked_under subcommands.Verify v = verify_of v
+asked_under subcommands.Demo v = demo_of v
+asked_under subcommands.Climb v = climb_of v
+asked_under subcommands.Reduce v = reduce_of v
+asked_under subcommands.Batch v = batch_of v
+
+abbrev pub asked_where_named : Option Subcommand → List Row → Option Asked
+asked_where_named None rows = None
+asked_where_named (Some s) rows = asked_under s (values_matched rows)
 
 -- what clap's matches say, by the name of the subcommand
 abbrev pub matched : Option (List ℕ × List Row) → Option Asked

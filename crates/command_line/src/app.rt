@@ -226,9 +226,9 @@ fn batch_command<'a>(alloc: Global) -> Result<Command<'a>, AllocError>
     )
 }
 
-// The commands by their names.
+// The subcommands, one for each line of the usage text.
 #[derive(Clone, Copy)]
-enum Subcommand {
+pub(crate) enum Subcommand {
     Check,
     Replay,
     Verify,
@@ -252,6 +252,7 @@ fn command_named<'a>(alloc: Global, named: Subcommand) -> Result<Command<'a>, Al
     }
 }
 
+// The command with these subcommands more.
 fn with_subcommands<'a>(
     alloc: Global,
     command: Command<'a>,

@@ -1,4 +1,4 @@
-use Rattle.std.proofs.Common.{◌<◌, ◌≤◌, length, ap, arith, subst, sym}
+use Rattle.std.proofs.Common.{◌<◌, length, arith, subst, sym}
 use Rattle.std.proofs.lemmas.List.{take_all}
 use Rattle.std.proofs.lemmas.List.Sums.{fold_more}
 use Rattle.clap.specs.Words.{App, new_app, with_rule}
