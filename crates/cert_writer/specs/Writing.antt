@@ -53,6 +53,12 @@ pub record AreFrames (pair : Pair) (k : ℕ) (classes : Classes) (base step : Un
   pub base_count : (p : ℕ) → base_clauses ≡ length (base_formula pair k classes p).clauses
   pub step_count : (p : ℕ) → step_clauses ≡ length (step_formula pair k classes p).clauses
 
+-- a member's part with these words before its name is added to a text
+pub record AddsPart (pair : Pair) (keyword : List ℕ) (p : ℕ) (formula : Formula) (before after : List ℕ) : Type 0 where
+  pub log : List Line
+  pub derives : Derives formula log
+  pub is : after ≡ before ++ part_text pair keyword p log
+
 -- a member's two parts are added to a text
 pub record AddsMember (pair : Pair) (k : ℕ) (classes : Classes) (p : ℕ) (before after : List ℕ) : Type 0 where
   pub base : List Line

@@ -11,7 +11,7 @@ ghost use Rattle.std.specs.List.{All};
 ghost use Rattle.cnf_store.specs.Clauses.{IsLiteral, AreLiterals};
 ghost use Rattle.log_check.specs.FirstBad.{Decides};
 
-use crate::trimming::trimmed;
+use crate::trimming::trim;
 use circ_model::Lit;
 use class_partition::Classes;
 use cnf_store::Cnf;
@@ -76,6 +76,12 @@ fn add_clause(own: &mut Cnf, literals: &[i32]) -> Result<(), AllocError>
         own.add(literals)?;
     }
     Ok(())
+}
+
+// Adds the clauses that a case's two literals hold.
+fn add_case(case: &mut Case) -> Result<(), AllocError> {
+    add_clause(&mut case.own, &[case.first])?;
+    add_clause(&mut case.own, &[case.second])
 }
 
 // Adds a line.
@@ -253,17 +259,53 @@ pub struct Lemmas {
 impl Lemmas {
     /// Nothing is derived yet. The frames' clauses are given, and the variables of the frame's places begin past `base`.
     pub fn new(alloc: Global, frames: &Cnf, places: u32, base: u32) -> Result<Lemmas, AllocError> {
+        let cone = Cone::new(alloc, places)?;
+        Lemmas::over(alloc, frames, places, base, cone)
+    }
+
+    // The same with room for the places that two come down to.
+    fn over(
+        alloc: Global,
+        frames: &Cnf,
+        places: u32,
+        base: u32,
+        cone: Cone,
+    ) -> Result<Lemmas, AllocError> {
         let none = Derived { least: 0, place: 0 };
-        Ok(Lemmas {
-            given: frames.len(),
+        let derived = vec![in alloc; none; places as usize]?;
+        Lemmas::with_places(alloc, frames, base, cone, derived)
+    }
+
+    // The same with room for what is derived of each place.
+    fn with_places(
+        alloc: Global,
+        frames: &Cnf,
+        base: u32,
+        cone: Cone,
+        derived: Vec<Derived>,
+    ) -> Result<Lemmas, AllocError> {
+        let refuter = Refuter::new(alloc, frames)?;
+        Ok(Lemmas::of(alloc, frames.len(), base, refuter, cone, derived))
+    }
+
+    fn of(
+        alloc: Global,
+        given: u64,
+        base: u32,
+        refuter: Refuter,
+        cone: Cone,
+        derived: Vec<Derived>,
+    ) -> Lemmas {
+        Lemmas {
+            given,
             base,
-            refuter: Refuter::new(alloc, frames)?,
+            refuter,
             log: Log::new(alloc),
-            derived: vec![in alloc; none; places as usize]?,
-            cone: Cone::new(alloc, places)?,
+            derived,
+            cone,
             literals: Vec::new(alloc),
             hints: Vec::new(alloc),
-        })
+        }
     }
 
     // A literal of the pair in the frame.
@@ -352,17 +394,21 @@ impl Lemmas {
         place: u32,
         case: &mut Case,
     ) -> Result<u64, AllocError> {
-        add_clause(&mut case.own, &[case.first])?;
-        add_clause(&mut case.own, &[case.second])?;
+        add_case(case)?;
         self.add_known(classes, place, case)?;
         match self.refuter.refute(alloc, &case.own)? {
             None => Ok(0),
-            Some(log) => {
-                let kept = trimmed(alloc, self.given.saturating_add(case.own.len()), &log)?;
-                self.take(alloc, case, &kept)?;
-                Ok(self.log.len())
-            }
+            Some(log) => self.take_over(alloc, case, log),
         }
+    }
+
+    // Takes over the lines that a case's refutation needs, and answers the number of the last one.
+    fn take_over(&mut self, alloc: Global, case: &Case, log: Log) -> Result<u64, AllocError> {
+        let kept = trim(alloc, self.given.saturating_add(case.own.len()), log)?;
+        let taken = self.take(alloc, case, &kept);
+        drop(kept);
+        taken?;
+        Ok(self.log.len())
     }
 
     // Adds what is derived of the places of the cone.
@@ -521,25 +567,85 @@ impl Lemmas {
     ) -> Result<Log, AllocError>
         requires { last ≤ length self.now.log }
     {
-        let question = self.given.saturating_add(3);
         let mut log = Log::new(alloc);
         let mut numbers = Vec::new(alloc);
+        let collected = self.collect_into(alloc, marks, last, known, x, &mut numbers, &mut log);
+        drop(numbers);
+        collected?;
+        Ok(log)
+    }
+
+    // Adds them to a log, and their numbers by line to a list.
+    fn collect_into(
+        &self,
+        alloc: Global,
+        marks: &[bool],
+        last: u64,
+        known: Derived,
+        x: i32,
+        numbers: &mut Vec<u64>,
+        log: &mut Log,
+    ) -> Result<(), AllocError>
+        requires { last ≤ length self.now.log }
+    {
+        self.keep_marked(alloc, marks, last, numbers, log)?;
+        self.end_log(known, x, numbers.as_slice(), log)
+    }
+
+    // Adds the lines that are marked.
+    fn keep_marked(
+        &self,
+        alloc: Global,
+        marks: &[bool],
+        last: u64,
+        numbers: &mut Vec<u64>,
+        log: &mut Log,
+    ) -> Result<(), AllocError>
+        requires { last ≤ length self.now.log }
+    {
         let mut hints = Vec::new(alloc);
         for i in 0..last {
-            numbers.push(question.saturating_add(log.len()).saturating_add(1))?;
-            if is_set(marks, i) {
-                self.renumber(self.log.hints(i), &numbers, &mut hints)?;
-                add_line(&mut log, self.log.clause(i), &hints)?;
-            }
+            self.keep_line(marks, i, numbers, &mut hints, log)?;
         }
-        let least = number_at(&numbers, known.least.saturating_sub(1));
-        let other = number_at(&numbers, known.place.saturating_sub(1));
+        Ok(())
+    }
+
+    // Adds a line's number, and the line if it is marked.
+    fn keep_line(
+        &self,
+        marks: &[bool],
+        i: u64,
+        numbers: &mut Vec<u64>,
+        hints: &mut Vec<u64>,
+        log: &mut Log,
+    ) -> Result<(), AllocError>
+        requires { i < length self.now.log }
+    {
+        let question = self.given.saturating_add(3);
+        numbers.push(question.saturating_add(log.len()).saturating_add(1))?;
+        if is_set(marks, i) {
+            self.renumber(self.log.hints(i), numbers.as_slice(), hints)?;
+            add_line(log, self.log.clause(i), hints.as_slice())?;
+        }
+        Ok(())
+    }
+
+    // Adds the two lines that end the log.
+    fn end_log(
+        &self,
+        known: Derived,
+        x: i32,
+        numbers: &[u64],
+        log: &mut Log,
+    ) -> Result<(), AllocError> {
+        let question = self.given.saturating_add(3);
+        let least = number_at(numbers, known.least.saturating_sub(1));
+        let other = number_at(numbers, known.place.saturating_sub(1));
         let holds = question.saturating_add(log.len()).saturating_add(1);
         let one = self.given.saturating_add(1);
         let both = self.given.saturating_add(2);
-        add_line(&mut log, &[x], &[question, other, one])?;
-        add_line(&mut log, &[], &[question, holds, least, both])?;
-        Ok(log)
+        add_line(log, &[x], &[question, other, one])?;
+        add_line(log, &[], &[question, holds, least, both])
     }
 
     // The hints with their new numbers, in place of what the buffer had.

@@ -153,3 +153,13 @@ pub fn trimmed(alloc: Global, given: u64, log: &Log) -> Result<Log, AllocError>
     let marks = needed_lines(alloc, given, log)?;
     marked_lines(alloc, given, log, marks.as_slice())
 }
+
+// The same of a log that isn't used again.
+pub fn trim(alloc: Global, given: u64, log: Log) -> Result<Log, AllocError>
+    ensures accepted { IfOk result (λ kept. (formula : Formula) → length formula.clauses ≡ given → IsAccepted formula log → IsAccepted formula kept) }
+    ensures trimmed { IfOk result (IsTrimmed given) }
+{
+    let kept = trimmed(alloc, given, &log);
+    drop(log);
+    kept
+}

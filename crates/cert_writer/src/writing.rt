@@ -1,7 +1,7 @@
 //! Writing a certificate: the classes, and for each needed pair the logs of its two questions, which are solved again. The
 //! frames are made once, and lent to each question; the logs are trimmed. A log of the last frame is made of what lower places
 //! have derived, and checked; where it isn't accepted the question is asked on its own.
-ghost use Rattle.std.specs.Prelude.{◌≡◌, ◌<◌, ◌≤◌, ◌/◌, ◌-◌, ◌++◌, ◌∷◌, ℕ, List, IfOk, IfSome, OnOk, None, codes, decimal, length};
+ghost use Rattle.std.specs.Prelude.{◌≡◌, ◌<◌, ◌≤◌, ◌/◌, ◌-◌, ◌++◌, ◌∷◌, ℕ, List, IfOk, IfSome, OnOk, None, codes, decimal, length, true};
 ghost use Rattle.std.specs.List.{All};
 ghost use Rattle.circ_model.specs.Correspondence.{IsLiteral};
 ghost use Rattle.circ_model.specs.Meaning.{places_of};
@@ -15,10 +15,10 @@ ghost use Rattle.class_text.specs.ClassLines.{name_of};
 ghost use Rattle.corr_certificate.specs.Certificate.{IsSupported, PairOutputs};
 ghost use Rattle.corr_certificate.specs.Parts.{base_formula, step_formula};
 ghost use Rattle.cert_writer.specs.Trimming.{IsTrimmed};
-ghost use Rattle.cert_writer.specs.Writing.{head_text, tie_text, AreProved, AddsMember, AddsMembers, IsCertificate};
+ghost use Rattle.cert_writer.specs.Writing.{head_text, tie_text, AreProved, AddsPart, AddsMember, AddsMembers, IsCertificate};
 
 use crate::lemmas::Lemmas;
-use crate::trimming::trimmed;
+use crate::trimming::trim;
 use circ_model::{Lit, Signal};
 use class_partition::Classes;
 use class_text::{push_class_lines, push_name};
@@ -131,6 +131,55 @@ fn clauses_asked(
     Ok(count)
 }
 
+// Frames in which questions can be asked, and how many clauses they have with a question over some of them.
+fn prepared<'p>(
+    alloc: Global,
+    frames: Unrolled<'p>,
+    first: u32,
+    last: u32,
+) -> Result<(Prepared<'p>, u64), AllocError>
+    requires none { frames.asked ≡ None }
+    requires order { first ≤ last }
+    requires within { last < frames.frames }
+    ensures frames { IfOk result (λ r. r.0 ≡ frames.entry) }
+    ensures count { IfOk result (λ r. (a b : ℕ) → r.1 ≡ length (clauses_of (asking frames.entry (asks a b first last)))) }
+{
+    let mut frames = frames;
+    let clauses = clauses_asked(alloc, &mut frames, first, last)?;
+    Ok((Prepared::new(alloc, frames)?, clauses))
+}
+
+// The frames from reset.
+fn base_frames<'p>(
+    alloc: Global,
+    product: &'p Product,
+    k: u32,
+) -> Result<(Prepared<'p>, u64), AllocError>
+    requires some { 0 < k }
+    requires few { k ≤ 16 }
+    ensures frames { IfOk result (λ r. r.0 ≡ from_reset product.entry.now k) }
+    ensures count { IfOk result (λ r. (a b : ℕ) → r.1 ≡ length (clauses_of (asking (from_reset product.entry.now k) (asks a b 0 (k - 1))))) }
+{
+    let frames = Unrolled::reset_frames(alloc, product, k)?;
+    prepared(alloc, frames, 0, k - 1)
+}
+
+// The frames in which the classes hold, and one more.
+fn step_frames<'p>(
+    alloc: Global,
+    product: &'p Product,
+    k: u32,
+    classes: &Classes,
+) -> Result<(Prepared<'p>, u64), AllocError>
+    requires few { k ≤ 16 }
+    requires places { length classes.now.least ≡ places_of product.now }
+    ensures frames { IfOk result (λ r. r.0 ≡ after_classes product.entry.now k classes.now) }
+    ensures count { IfOk result (λ r. (a b : ℕ) → r.1 ≡ length (clauses_of (asking (after_classes product.entry.now k classes.now) (asks a b k k)))) }
+{
+    let frames = Unrolled::step_frames(alloc, product, k, classes)?;
+    prepared(alloc, frames, k, k)
+}
+
 // Makes the frames.
 fn frames_of<'p>(
     alloc: Global,
@@ -142,16 +191,32 @@ fn frames_of<'p>(
     requires places { length classes.now.least ≡ places_of product.now }
     ensures { IfOk result (λ frames. frames ≡ record { pair = product.entry.now; k = k; classes = classes.entry.now }) }
 {
-    let mut base = Unrolled::reset_frames(alloc, product, k)?;
-    let base_clauses = clauses_asked(alloc, &mut base, 0, k - 1)?;
-    let mut step = Unrolled::step_frames(alloc, product, k, classes)?;
-    let step_clauses = clauses_asked(alloc, &mut step, k, k)?;
+    let (base, base_clauses) = base_frames(alloc, product, k)?;
+    with_base(alloc, product, k, classes, base, base_clauses)
+}
+
+// The same, where those from reset are made.
+fn with_base<'p>(
+    alloc: Global,
+    product: &'p Product,
+    k: u32,
+    classes: &'p Classes,
+    base: Prepared<'p>,
+    base_clauses: u64,
+) -> Result<Frames<'p>, AllocError>
+    requires proved { AreProved product.now k classes.now }
+    requires places { length classes.now.least ≡ places_of product.now }
+    requires base { base ≡ from_reset product.now k }
+    requires count { (a b : ℕ) → base_clauses ≡ length (clauses_of (asking (from_reset product.now k) (asks a b 0 (k - 1)))) }
+    ensures { IfOk result (λ frames. frames ≡ record { pair = product.entry.now; k = k; classes = classes.entry.now }) }
+{
+    let (step, step_clauses) = step_frames(alloc, product, k, classes)?;
     Ok(Frames {
         product,
         k,
         classes,
-        base: Prepared::new(alloc, base)?,
-        step: Prepared::new(alloc, step)?,
+        base,
+        step,
         base_clauses,
         step_clauses,
     })
@@ -194,7 +259,7 @@ fn base_log(
     let (a, b) = literals_of(frames.classes, place);
     let k = frames.k;
     match frames.base.find_in(alloc, work, a, b, 0, k - 1)? {
-        Found::None(log) => trimmed(alloc, frames.base_clauses, &log),
+        Found::None(log) => trim(alloc, frames.base_clauses, log),
         Found::Path(_seen) => unreachable!(),
     }
 }
@@ -214,9 +279,31 @@ fn step_log(
     let (a, b) = literals_of(frames.classes, place);
     let k = frames.k;
     match frames.step.find_in(alloc, work, a, b, k, k)? {
-        Found::None(log) => trimmed(alloc, frames.step_clauses, &log),
+        Found::None(log) => trim(alloc, frames.step_clauses, log),
         Found::Path(_seen) => unreachable!(),
     }
+}
+
+// Whether a log is one of a question in frame t.
+fn is_accepted(
+    alloc: Global,
+    frames: &mut Unrolled<'_>,
+    a: Lit,
+    b: Lit,
+    t: u32,
+    log: &Log,
+) -> Result<bool, AllocError>
+    requires none { frames.old.asked ≡ None }
+    requires left { IsLiteral frames.old.pair a }
+    requires right { IsLiteral frames.old.pair b }
+    requires within { t < frames.old.frames }
+    ensures log { IfOk result (λ good. good ≡ true → IsAccepted (formula_of (asking frames.old (asks a b t t))) log.now) }
+    ensures frames { IfOk result (λ good. frames.new ≡ frames.old) }
+{
+    frames.ask(alloc, a, b, t, t)?;
+    let good = check(alloc, frames.cnf(), log)?;
+    frames.drop_question();
+    Ok(good)
 }
 
 // A log that may be one of a question in frame t, where it is accepted.
@@ -238,10 +325,11 @@ fn accepted_in(
     let Some(log) = log else {
         return Ok(None);
     };
-    frames.ask(alloc, a, b, t, t)?;
-    let good = check(alloc, frames.cnf(), &log)?;
-    frames.drop_question();
-    if good { Ok(Some(log)) } else { Ok(None) }
+    if is_accepted(alloc, frames, a, b, t, &log)? {
+        Ok(Some(log))
+    } else {
+        Ok(None)
+    }
 }
 
 // The log by what lower places have derived, where it is accepted.
@@ -282,7 +370,7 @@ fn last_log(
     let _places = frames.product.len();
     let (a, b) = literals_of(frames.classes, place);
     match derived_log(alloc, work, frames, place, a, b)? {
-        Some(log) => trimmed(alloc, frames.step_clauses, &log),
+        Some(log) => trim(alloc, frames.step_clauses, log),
         None => step_log(alloc, &mut work.step, frames, place),
     }
 }
@@ -305,6 +393,44 @@ fn push_part(
     Ok(())
 }
 
+// Adds the part of a place in the first k frames.
+fn push_base(
+    alloc: Global,
+    work: &mut Workspace,
+    frames: &Frames<'_>,
+    place: u32,
+    text: &mut Vec<u8>,
+) -> Result<(), AllocError>
+    requires place { place < places_of frames.now.pair }
+    ensures { OnOk result (AddsPart frames.now.pair (codes "base ") place (base_formula frames.now.pair frames.now.k frames.now.classes place) text.old.items text.new.items) }
+{
+    let signal = frames.product.signal(place);
+    let log = base_log(alloc, work, frames, place)?;
+    let pushed = push_part(b"base ", signal, &log, text);
+    drop(log);
+    pushed
+}
+
+// Adds the part of a place after k frames in which the classes hold.
+fn push_step(
+    alloc: Global,
+    work: &mut Workspaces<'_>,
+    frames: &Frames<'_>,
+    place: u32,
+    text: &mut Vec<u8>,
+) -> Result<(), AllocError>
+    requires asked { work.old.asked ≡ after_classes frames.now.pair frames.now.k frames.now.classes }
+    requires place { place < places_of frames.now.pair }
+    ensures added { OnOk result (AddsPart frames.now.pair (codes "step ") place (step_formula frames.now.pair frames.now.k frames.now.classes place) text.old.items text.new.items) }
+    ensures asked { OnOk result (work.new.asked ≡ work.old.asked) }
+{
+    let signal = frames.product.signal(place);
+    let log = last_log(alloc, work, frames, place)?;
+    let pushed = push_part(b"step ", signal, &log, text);
+    drop(log);
+    pushed
+}
+
 // Adds the two parts of a place.
 fn push_member(
     alloc: Global,
@@ -318,15 +444,8 @@ fn push_member(
     ensures added { OnOk result (AddsMember frames.now.pair frames.now.k frames.now.classes place text.old.items text.new.items) }
     ensures asked { OnOk result (work.new.asked ≡ work.old.asked) }
 {
-    let signal = frames.product.signal(place);
-    let base = base_log(alloc, &mut work.base, frames, place)?;
-    let pushed = push_part(b"base ", signal, &base, text);
-    drop(base);
-    pushed?;
-    let step = last_log(alloc, work, frames, place)?;
-    let pushed = push_part(b"step ", signal, &step, text);
-    drop(step);
-    pushed
+    push_base(alloc, &mut work.base, frames, place, text)?;
+    push_step(alloc, work, frames, place, text)
 }
 
 // Adds the parts of all places that aren't the least of their class, and the end.
@@ -378,10 +497,28 @@ fn push_parts(
 {
     let _places = classes.len();
     let frames = frames_of(alloc, product, k, classes)?;
-    let mut work = workspaces_of(alloc, product, k, classes)?;
-    let pushed = push_members(alloc, &mut work, &frames, text);
-    drop(work);
+    let pushed = push_over(alloc, product, k, classes, &frames, text);
     drop(frames);
+    pushed
+}
+
+// Adds the parts of all places, over these frames.
+fn push_over(
+    alloc: Global,
+    product: &Product,
+    k: u32,
+    classes: &Classes,
+    frames: &Frames<'_>,
+    text: &mut Vec<u8>,
+) -> Result<(), AllocError>
+    requires few { k ≤ 16 }
+    requires places { length classes.now.least ≡ places_of product.now }
+    requires frames { frames.now ≡ record { pair = product.now; k = k; classes = classes.now } }
+    ensures { OnOk result (AddsMembers product.now k classes.now text.old.items text.new.items) }
+{
+    let mut work = workspaces_of(alloc, product, k, classes)?;
+    let pushed = push_members(alloc, &mut work, frames, text);
+    drop(work);
     pushed
 }
 

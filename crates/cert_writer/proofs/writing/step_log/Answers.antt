@@ -19,13 +19,13 @@ pub returns-clause-accepted : goal.returns-clause-accepted
 returns-clause-accepted c =
     let f = c.frames.inside in
     let place : ℕ = c.args.place in
-    subst (λ (s : Certified). IfOk c.trimmed.result (IsAccepted (step_formula s.pair s.k s.classes place))) c.frames.view_is
-    (trimmed_accepted (step_formula f.product.now f.k f.classes.now place) f.step_clauses c.in-None.log c.trimmed.result (c.frames.invariant.step_count place)
-    (step_accepted f.product.now f.k f.classes.now place f.step c.literals_of-a.result c.in_ok-log.field-0 c.in-None.log c.frames.invariant.step_is c.literals_of-a.ensures c.in-None.is c.in_ok-log.ensures) c.trimmed.ensures.accepted)
+    subst (λ (s : Certified). IfOk c.trim.result (IsAccepted (step_formula s.pair s.k s.classes place))) c.frames.view_is
+    (trimmed_accepted (step_formula f.product.now f.k f.classes.now place) f.step_clauses c.in-None.log c.trim.result (c.frames.invariant.step_count place)
+    (step_accepted f.product.now f.k f.classes.now place f.step c.literals_of-a.result c.in_ok-log.field-0 c.in-None.log c.frames.invariant.step_is c.literals_of-a.ensures c.in-None.is c.in_ok-log.ensures) c.trim.ensures.accepted)
 
 pub returns-clause-trimmed : goal.returns-clause-trimmed
 returns-clause-trimmed c =
     let f = c.frames.inside in
     let place : ℕ = c.args.place in
-    subst (λ (s : Certified). IfOk c.trimmed.result (IsTrimmed (length (step_formula s.pair s.k s.classes place).clauses))) c.frames.view_is
-    (trimmed_over (step_formula f.product.now f.k f.classes.now place) f.step_clauses c.trimmed.result (c.frames.invariant.step_count place) c.trimmed.ensures.trimmed)
+    subst (λ (s : Certified). IfOk c.trim.result (IsTrimmed (length (step_formula s.pair s.k s.classes place).clauses))) c.frames.view_is
+    (trimmed_over (step_formula f.product.now f.k f.classes.now place) f.step_clauses c.trim.result (c.frames.invariant.step_count place) c.trim.ensures.trimmed)
