@@ -78,12 +78,6 @@ fn add_clause(own: &mut Cnf, literals: &[i32]) -> Result<(), AllocError>
     Ok(())
 }
 
-// Adds the clauses that a case's two literals hold.
-fn add_case(case: &mut Case) -> Result<(), AllocError> {
-    add_clause(&mut case.own, &[case.first])?;
-    add_clause(&mut case.own, &[case.second])
-}
-
 // Adds a line.
 fn add_line(log: &mut Log, literals: &[i32], hints: &[u64]) -> Result<(), AllocError> {
     if are_within(literals, 2147483647) && are_numbers(hints) {
@@ -183,6 +177,14 @@ impl Cone {
         }
     }
 
+    // Meets what two places come down to, and nothing else.
+    fn begin(&mut self, cells: &[Cell], place: u32, rep: u32) -> Result<(), AllocError> {
+        self.clear();
+        self.meet(place)?;
+        self.meet(rep)?;
+        self.descend(cells)
+    }
+
     // Meets a place.
     fn meet(&mut self, place: u32) -> Result<(), AllocError> {
         let row = place as usize;
@@ -242,6 +244,21 @@ struct Case {
     lines: Vec<u64>,
 }
 
+impl Case {
+    // Adds the two clauses that its literals hold.
+    fn add_literals(&mut self) -> Result<(), AllocError> {
+        add_clause(&mut self.own, &[self.first])?;
+        add_clause(&mut self.own, &[self.second])
+    }
+
+    // Adds the clause of an earlier line.
+    fn add_line(&mut self, a: i32, b: i32, line: u64) -> Result<(), AllocError> {
+        add_clause(&mut self.own, &[a, b])?;
+        self.lines.push(line)?;
+        Ok(())
+    }
+}
+
 /// What is derived in a frame.
 #[derive(Drop)]
 pub struct Lemmas {
@@ -272,8 +289,13 @@ impl Lemmas {
         cone: Cone,
     ) -> Result<Lemmas, AllocError> {
         let none = Derived { least: 0, place: 0 };
-        let derived = vec![in alloc; none; places as usize]?;
-        Lemmas::with_places(alloc, frames, base, cone, derived)
+        match vec![in alloc; none; places as usize] {
+            Ok(derived) => Lemmas::with_places(alloc, frames, base, cone, derived),
+            Err(error) => {
+                drop(cone);
+                Err(error)
+            }
+        }
     }
 
     // The same with room for what is derived of each place.
@@ -284,8 +306,14 @@ impl Lemmas {
         cone: Cone,
         derived: Vec<Derived>,
     ) -> Result<Lemmas, AllocError> {
-        let refuter = Refuter::new(alloc, frames)?;
-        Ok(Lemmas::of(alloc, frames.len(), base, refuter, cone, derived))
+        match Refuter::new(alloc, frames) {
+            Ok(refuter) => Ok(Lemmas::of(alloc, frames.len(), base, refuter, cone, derived)),
+            Err(error) => {
+                drop(cone);
+                drop(derived);
+                Err(error)
+            }
+        }
     }
 
     fn of(
@@ -340,8 +368,22 @@ impl Lemmas {
         }
     }
 
-    /// Derives that a place and the least of its class are equal, by what is derived of the places below them.
-    pub fn derive(
+    /// Derives that a place and the least of its class are equal, by what is derived of the places below them, and answers
+    /// the log of it over the frames' clauses and its question's, of three clauses: that one of the frame's two places holds,
+    /// where a variable does, that not both do, and that the variable holds. None where it can't be derived.
+    pub fn log_of(
+        &mut self,
+        alloc: Global,
+        cells: &[Cell],
+        classes: &Classes,
+        place: u32,
+    ) -> Result<Option<Log>, AllocError> {
+        self.derive(alloc, cells, classes, place)?;
+        self.log_so_far(alloc, classes, place)
+    }
+
+    // Derives it, where it can.
+    fn derive(
         &mut self,
         alloc: Global,
         cells: &[Cell],
@@ -351,19 +393,25 @@ impl Lemmas {
         if place >= classes.len() {
             return Ok(());
         }
-        self.cone.clear();
-        self.cone.meet(place)?;
-        self.cone.meet(classes.rep(place))?;
-        self.cone.descend(cells)?;
+        self.cone.begin(cells, place, classes.rep(place))?;
+        self.derive_both(alloc, classes, place)
+    }
+
+    // Derives it in its two cases.
+    fn derive_both(
+        &mut self,
+        alloc: Global,
+        classes: &Classes,
+        place: u32,
+    ) -> Result<(), AllocError> {
         let (x, y) = self.literals_of(classes, place);
         let least = self.derive_case(alloc, classes, place, x, y.wrapping_neg())?;
         let other = self.derive_case(alloc, classes, place, x.wrapping_neg(), y)?;
-        if (place as usize) < self.derived.len() {
-            self.derived[place as usize] = Derived {
-                least,
-                place: other,
-            };
-        }
+        let lines = Derived {
+            least,
+            place: other,
+        };
+        set_derived(&mut self.derived, place, lines);
         Ok(())
     }
 
@@ -394,7 +442,7 @@ impl Lemmas {
         place: u32,
         case: &mut Case,
     ) -> Result<u64, AllocError> {
-        add_case(case)?;
+        case.add_literals()?;
         self.add_known(classes, place, case)?;
         match self.refuter.refute(alloc, &case.own)? {
             None => Ok(0),
@@ -414,16 +462,22 @@ impl Lemmas {
     // Adds what is derived of the places of the cone.
     fn add_known(&self, classes: &Classes, place: u32, case: &mut Case) -> Result<(), AllocError> {
         for q in &self.cone.places {
-            let known = self.derived_at(*q);
-            if *q != place && known.least != 0 && known.place != 0 {
-                let (x, y) = self.literals_of(classes, *q);
-                add_clause(&mut case.own, &[x.wrapping_neg(), y])?;
-                case.lines.push(known.least)?;
-                add_clause(&mut case.own, &[x, y.wrapping_neg()])?;
-                case.lines.push(known.place)?;
+            if *q != place {
+                self.add_known_of(classes, *q, case)?;
             }
         }
         Ok(())
+    }
+
+    // Adds what is derived of a place.
+    fn add_known_of(&self, classes: &Classes, q: u32, case: &mut Case) -> Result<(), AllocError> {
+        let known = self.derived_at(q);
+        if known.least == 0 || known.place == 0 {
+            return Ok(());
+        }
+        let (x, y) = self.literals_of(classes, q);
+        case.add_line(x.wrapping_neg(), y, known.least)?;
+        case.add_line(x, y.wrapping_neg(), known.place)
     }
 
     // Takes over the lines of a case's refutation.
@@ -534,9 +588,8 @@ impl Lemmas {
         }
     }
 
-    /// The log of a place over the frames' clauses and its question's, of three clauses: that one of the frame's two places holds,
-    /// where a variable does, that not both do, and that the variable holds. None where nothing is derived of it.
-    pub fn log_of(
+    // The log by what is derived.
+    fn log_so_far(
         &self,
         alloc: Global,
         classes: &Classes,
@@ -571,8 +624,13 @@ impl Lemmas {
         let mut numbers = Vec::new(alloc);
         let collected = self.collect_into(alloc, marks, last, known, x, &mut numbers, &mut log);
         drop(numbers);
-        collected?;
-        Ok(log)
+        match collected {
+            Ok(()) => Ok(log),
+            Err(error) => {
+                drop(log);
+                Err(error)
+            }
+        }
     }
 
     // Adds them to a log, and their numbers by line to a list.
@@ -624,10 +682,24 @@ impl Lemmas {
         let question = self.given.saturating_add(3);
         numbers.push(question.saturating_add(log.len()).saturating_add(1))?;
         if is_set(marks, i) {
-            self.renumber(self.log.hints(i), numbers.as_slice(), hints)?;
-            add_line(log, self.log.clause(i), hints.as_slice())?;
+            self.copy_line(i, numbers.as_slice(), hints, log)
+        } else {
+            Ok(())
         }
-        Ok(())
+    }
+
+    // Adds a line, with new numbers.
+    fn copy_line(
+        &self,
+        i: u64,
+        numbers: &[u64],
+        hints: &mut Vec<u64>,
+        log: &mut Log,
+    ) -> Result<(), AllocError>
+        requires { i < length self.now.log }
+    {
+        self.renumber(self.log.hints(i), numbers, hints)?;
+        add_line(log, self.log.clause(i), hints.as_slice())
     }
 
     // Adds the two lines that end the log.
@@ -648,6 +720,15 @@ impl Lemmas {
         add_line(log, &[], &[question, holds, least, both])
     }
 
+    // The new number of a hint.
+    fn new_number(&self, hint: u64, numbers: &[u64]) -> u64 {
+        if hint <= self.given {
+            hint
+        } else {
+            number_at(numbers, hint - self.given - 1)
+        }
+    }
+
     // The hints with their new numbers, in place of what the buffer had.
     fn renumber(
         &self,
@@ -657,13 +738,16 @@ impl Lemmas {
     ) -> Result<(), AllocError> {
         hints.clear();
         for hint in old {
-            if *hint <= self.given {
-                hints.push(*hint)?;
-            } else {
-                hints.push(number_at(numbers, *hint - self.given - 1))?;
-            }
+            hints.push(self.new_number(*hint, numbers))?;
         }
         Ok(())
+    }
+}
+
+// Sets what is derived of a place.
+fn set_derived(derived: &mut [Derived], place: u32, lines: Derived) {
+    if (place as usize) < derived.len() {
+        derived[place as usize] = lines;
     }
 }
 

@@ -145,8 +145,13 @@ fn prepared<'p>(
     ensures count { IfOk result (λ r. (a b : ℕ) → r.1 ≡ length (clauses_of (asking frames.entry (asks a b first last)))) }
 {
     let mut frames = frames;
-    let clauses = clauses_asked(alloc, &mut frames, first, last)?;
-    Ok((Prepared::new(alloc, frames)?, clauses))
+    match clauses_asked(alloc, &mut frames, first, last) {
+        Ok(clauses) => Ok((Prepared::new(alloc, frames)?, clauses)),
+        Err(error) => {
+            drop(frames);
+            Err(error)
+        }
+    }
 }
 
 // The frames from reset.
@@ -210,16 +215,21 @@ fn with_base<'p>(
     requires count { (a b : ℕ) → base_clauses ≡ length (clauses_of (asking (from_reset product.now k) (asks a b 0 (k - 1)))) }
     ensures { IfOk result (λ frames. frames ≡ record { pair = product.entry.now; k = k; classes = classes.entry.now }) }
 {
-    let (step, step_clauses) = step_frames(alloc, product, k, classes)?;
-    Ok(Frames {
-        product,
-        k,
-        classes,
-        base,
-        step,
-        base_clauses,
-        step_clauses,
-    })
+    match step_frames(alloc, product, k, classes) {
+        Ok((step, step_clauses)) => Ok(Frames {
+            product,
+            k,
+            classes,
+            base,
+            step,
+            base_clauses,
+            step_clauses,
+        }),
+        Err(error) => {
+            drop(base);
+            Err(error)
+        }
+    }
 }
 
 // The memory for their questions.
@@ -235,13 +245,18 @@ fn workspaces_of<'p>(
 {
     let asked = Unrolled::step_frames(alloc, product, k, classes)?;
     let base = k.saturating_mul(product.len());
-    let lemmas = Lemmas::new(alloc, asked.cnf(), product.len(), base)?;
-    Ok(Workspaces {
-        base: Workspace::new(),
-        step: Workspace::new(),
-        lemmas,
-        asked,
-    })
+    match Lemmas::new(alloc, asked.cnf(), product.len(), base) {
+        Ok(lemmas) => Ok(Workspaces {
+            base: Workspace::new(),
+            step: Workspace::new(),
+            lemmas,
+            asked,
+        }),
+        Err(error) => {
+            drop(asked);
+            Err(error)
+        }
+    }
 }
 
 // The log, trimmed, that no run has a place and its class's least place apart in its first k frames.
@@ -325,10 +340,16 @@ fn accepted_in(
     let Some(log) = log else {
         return Ok(None);
     };
-    if is_accepted(alloc, frames, a, b, t, &log)? {
-        Ok(Some(log))
-    } else {
-        Ok(None)
+    match is_accepted(alloc, frames, a, b, t, &log) {
+        Ok(true) => Ok(Some(log)),
+        Ok(false) => {
+            drop(log);
+            Ok(None)
+        }
+        Err(error) => {
+            drop(log);
+            Err(error)
+        }
     }
 }
 
@@ -349,8 +370,7 @@ fn derived_log(
     ensures asked { IfOk result (λ o. work.new.asked ≡ work.old.asked) }
 {
     let cells = frames.product.cells();
-    work.lemmas.derive(alloc, cells, frames.classes, place)?;
-    let log = work.lemmas.log_of(alloc, frames.classes, place)?;
+    let log = work.lemmas.log_of(alloc, cells, frames.classes, place)?;
     accepted_in(alloc, &mut work.asked, a, b, frames.k, log)
 }
 

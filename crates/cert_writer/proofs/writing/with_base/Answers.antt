@@ -7,7 +7,7 @@ invariant_of-result c =
     record {
       proved = c.requires.proved;
       base_is = c.requires.base;
-      step_is = c.in_ok-step.ensures.frames;
+      step_is = c.in-Ok.ensures.frames;
       base_count = λ p. c.requires.count (needed classes p).0 (needed classes p).1;
-      step_count = λ p. c.in_ok-step.ensures.count (needed classes p).0 (needed classes p).1;
+      step_count = λ p. c.in-Ok.ensures.count (needed classes p).0 (needed classes p).1;
     }
