@@ -73,17 +73,19 @@ fn add_clause(own: &mut Cnf, literals: &[i32]) -> Result<(), AllocError>
     ensures { own.new.vars ≡ own.old.vars }
 {
     if are_within(literals, own.vars()) {
-        own.add(literals)?;
+        own.add(literals)
+    } else {
+        Ok(())
     }
-    Ok(())
 }
 
 // Adds a line.
 fn add_line(log: &mut Log, literals: &[i32], hints: &[u64]) -> Result<(), AllocError> {
     if are_within(literals, 2147483647) && are_numbers(hints) {
-        log.add(literals, hints)?;
+        log.add(literals, hints)
+    } else {
+        Ok(())
     }
-    Ok(())
 }
 
 // Sets a mark.
@@ -259,80 +261,29 @@ impl Case {
     }
 }
 
-/// What is derived in a frame.
+// The places of a frame, whose variables begin past `base`: what is derived of each, and those that are met.
 #[derive(Drop)]
-pub struct Lemmas {
-    given: u64,
+struct Places {
     base: u32,
-    refuter: Refuter,
-    log: Log,
     // by place
     derived: Vec<Derived>,
     cone: Cone,
-    literals: Vec<i32>,
-    hints: Vec<u64>,
 }
 
-impl Lemmas {
-    /// Nothing is derived yet. The frames' clauses are given, and the variables of the frame's places begin past `base`.
-    pub fn new(alloc: Global, frames: &Cnf, places: u32, base: u32) -> Result<Lemmas, AllocError> {
+impl Places {
+    fn new(alloc: Global, places: u32, base: u32) -> Result<Places, AllocError> {
         let cone = Cone::new(alloc, places)?;
-        Lemmas::over(alloc, frames, places, base, cone)
-    }
-
-    // The same with room for the places that two come down to.
-    fn over(
-        alloc: Global,
-        frames: &Cnf,
-        places: u32,
-        base: u32,
-        cone: Cone,
-    ) -> Result<Lemmas, AllocError> {
         let none = Derived { least: 0, place: 0 };
         match vec![in alloc; none; places as usize] {
-            Ok(derived) => Lemmas::with_places(alloc, frames, base, cone, derived),
+            Ok(derived) => Ok(Places {
+                base,
+                derived,
+                cone,
+            }),
             Err(error) => {
                 drop(cone);
                 Err(error)
             }
-        }
-    }
-
-    // The same with room for what is derived of each place.
-    fn with_places(
-        alloc: Global,
-        frames: &Cnf,
-        base: u32,
-        cone: Cone,
-        derived: Vec<Derived>,
-    ) -> Result<Lemmas, AllocError> {
-        match Refuter::new(alloc, frames) {
-            Ok(refuter) => Ok(Lemmas::of(alloc, frames.len(), base, refuter, cone, derived)),
-            Err(error) => {
-                drop(cone);
-                drop(derived);
-                Err(error)
-            }
-        }
-    }
-
-    fn of(
-        alloc: Global,
-        given: u64,
-        base: u32,
-        refuter: Refuter,
-        cone: Cone,
-        derived: Vec<Derived>,
-    ) -> Lemmas {
-        Lemmas {
-            given,
-            base,
-            refuter,
-            log: Log::new(alloc),
-            derived,
-            cone,
-            literals: Vec::new(alloc),
-            hints: Vec::new(alloc),
         }
     }
 
@@ -368,97 +319,6 @@ impl Lemmas {
         }
     }
 
-    /// Derives that a place and the least of its class are equal, by what is derived of the places below them, and answers
-    /// the log of it over the frames' clauses and its question's, of three clauses: that one of the frame's two places holds,
-    /// where a variable does, that not both do, and that the variable holds. None where it can't be derived.
-    pub fn log_of(
-        &mut self,
-        alloc: Global,
-        cells: &[Cell],
-        classes: &Classes,
-        place: u32,
-    ) -> Result<Option<Log>, AllocError> {
-        self.derive(alloc, cells, classes, place)?;
-        self.log_so_far(alloc, classes, place)
-    }
-
-    // Derives it, where it can.
-    fn derive(
-        &mut self,
-        alloc: Global,
-        cells: &[Cell],
-        classes: &Classes,
-        place: u32,
-    ) -> Result<(), AllocError> {
-        if place >= classes.len() {
-            return Ok(());
-        }
-        self.cone.begin(cells, place, classes.rep(place))?;
-        self.derive_both(alloc, classes, place)
-    }
-
-    // Derives it in its two cases.
-    fn derive_both(
-        &mut self,
-        alloc: Global,
-        classes: &Classes,
-        place: u32,
-    ) -> Result<(), AllocError> {
-        let (x, y) = self.literals_of(classes, place);
-        let least = self.derive_case(alloc, classes, place, x, y.wrapping_neg())?;
-        let other = self.derive_case(alloc, classes, place, x.wrapping_neg(), y)?;
-        let lines = Derived {
-            least,
-            place: other,
-        };
-        set_derived(&mut self.derived, place, lines);
-        Ok(())
-    }
-
-    // Derives that not both of two literals hold, and answers the number of the line, or 0.
-    fn derive_case(
-        &mut self,
-        alloc: Global,
-        classes: &Classes,
-        place: u32,
-        first: i32,
-        second: i32,
-    ) -> Result<u64, AllocError> {
-        let mut case = Case {
-            first,
-            second,
-            own: no_clauses(alloc, self.refuter.vars)?,
-            lines: Vec::new(alloc),
-        };
-        let derived = self.derive_in(alloc, classes, place, &mut case);
-        drop(case);
-        derived
-    }
-
-    fn derive_in(
-        &mut self,
-        alloc: Global,
-        classes: &Classes,
-        place: u32,
-        case: &mut Case,
-    ) -> Result<u64, AllocError> {
-        case.add_literals()?;
-        self.add_known(classes, place, case)?;
-        match self.refuter.refute(alloc, &case.own)? {
-            None => Ok(0),
-            Some(log) => self.take_over(alloc, case, log),
-        }
-    }
-
-    // Takes over the lines that a case's refutation needs, and answers the number of the last one.
-    fn take_over(&mut self, alloc: Global, case: &Case, log: Log) -> Result<u64, AllocError> {
-        let kept = trim(alloc, self.given.saturating_add(case.own.len()), log)?;
-        let taken = self.take(alloc, case, &kept);
-        drop(kept);
-        taken?;
-        Ok(self.log.len())
-    }
-
     // Adds what is derived of the places of the cone.
     fn add_known(&self, classes: &Classes, place: u32, case: &mut Case) -> Result<(), AllocError> {
         for q in &self.cone.places {
@@ -479,24 +339,67 @@ impl Lemmas {
         case.add_line(x.wrapping_neg(), y, known.least)?;
         case.add_line(x, y.wrapping_neg(), known.place)
     }
+}
+
+// The lines that are derived, past so many clauses that are given. Beside them the memory in which a line is made.
+#[derive(Drop)]
+struct Lines {
+    given: u64,
+    log: Log,
+    literals: Vec<i32>,
+    hints: Vec<u64>,
+}
+
+impl Lines {
+    fn new(alloc: Global, given: u64) -> Lines {
+        Lines {
+            given,
+            log: Log::new(alloc),
+            literals: Vec::new(alloc),
+            hints: Vec::new(alloc),
+        }
+    }
+
+    // Takes over the lines that a case's refutation needs, and answers the number of the last one.
+    fn take_over(&mut self, alloc: Global, case: &Case, log: Log) -> Result<u64, AllocError> {
+        let kept = trim(alloc, self.given.saturating_add(case.own.len()), log)?;
+        let taken = self.take(alloc, case, &kept);
+        drop(kept);
+        taken?;
+        Ok(self.log.len())
+    }
 
     // Takes over the lines of a case's refutation.
     fn take(&mut self, alloc: Global, case: &Case, kept: &Log) -> Result<(), AllocError> {
         let start = self.log.len();
         let mut rests = Vec::new(alloc);
         for i in 0..kept.len() {
-            let mut on = self.take_hints(case, start, kept.hints(i), &rests)?;
-            if i + 1 == kept.len() {
-                on = Rests {
-                    first: true,
-                    second: true,
-                };
-            }
-            rests.push(on)?;
-            self.take_literals(case, kept.clause(i), on)?;
-            add_line(&mut self.log, &self.literals, &self.hints)?;
+            self.take_line(case, start, kept, i, &mut rests)?;
         }
         Ok(())
+    }
+
+    // Takes over a line. The last one rests on both literals.
+    fn take_line(
+        &mut self,
+        case: &Case,
+        start: u64,
+        kept: &Log,
+        i: u64,
+        rests: &mut Vec<Rests>,
+    ) -> Result<(), AllocError>
+        requires { i < length kept.now }
+    {
+        let count = kept.len();
+        let last = i + 1 == count;
+        let on = self.take_hints(case, start, kept.hints(i), rests.as_slice())?;
+        let on = Rests {
+            first: last || on.first,
+            second: last || on.second,
+        };
+        rests.push(on)?;
+        self.take_literals(case, kept.clause(i), on)?;
+        add_line(&mut self.log, &self.literals, &self.hints)
     }
 
     // The literals of a line, with those of the case that it rests on.
@@ -588,25 +491,14 @@ impl Lemmas {
         }
     }
 
-    // The log by what is derived.
-    fn log_so_far(
-        &self,
-        alloc: Global,
-        classes: &Classes,
-        place: u32,
-    ) -> Result<Option<Log>, AllocError> {
-        let known = self.derived_at(place);
-        let last = if known.least < known.place {
-            known.place
-        } else {
-            known.least
-        };
-        if known.least == 0 || known.place == 0 || last > self.log.len() {
-            return Ok(None);
-        }
+    // The lines up to one that these two reach, and two that end the log.
+    fn log_to(&self, alloc: Global, last: u64, known: Derived, x: i32) -> Result<Log, AllocError>
+        requires { last ≤ length self.now.log }
+    {
         let marks = self.reached(alloc, last, known)?;
-        let (x, _) = self.literals_of(classes, place);
-        Ok(Some(self.collect(alloc, &marks, last, known, x)?))
+        let log = self.collect(alloc, &marks, last, known, x);
+        drop(marks);
+        log
     }
 
     // The lines that are marked, and two that end the log.
@@ -741,6 +633,134 @@ impl Lemmas {
             hints.push(self.new_number(*hint, numbers))?;
         }
         Ok(())
+    }
+}
+
+/// What is derived in a frame.
+#[derive(Drop)]
+pub struct Lemmas {
+    refuter: Refuter,
+    places: Places,
+    lines: Lines,
+}
+
+impl Lemmas {
+    /// Nothing is derived yet. The frames' clauses are given, and the variables of the frame's places begin past `base`.
+    pub fn new(alloc: Global, frames: &Cnf, places: u32, base: u32) -> Result<Lemmas, AllocError> {
+        let places = Places::new(alloc, places, base)?;
+        match Refuter::new(alloc, frames) {
+            Ok(refuter) => Ok(Lemmas {
+                refuter,
+                places,
+                lines: Lines::new(alloc, frames.len()),
+            }),
+            Err(error) => {
+                drop(places);
+                Err(error)
+            }
+        }
+    }
+
+    /// Derives that a place and the least of its class are equal, by what is derived of the places below them, and answers
+    /// the log of it over the frames' clauses and its question's, of three clauses: that one of the frame's two places holds,
+    /// where a variable does, that not both do, and that the variable holds. None where it can't be derived.
+    pub fn log_of(
+        &mut self,
+        alloc: Global,
+        cells: &[Cell],
+        classes: &Classes,
+        place: u32,
+    ) -> Result<Option<Log>, AllocError> {
+        self.derive(alloc, cells, classes, place)?;
+        self.log_so_far(alloc, classes, place)
+    }
+
+    // Derives it, where it can.
+    fn derive(
+        &mut self,
+        alloc: Global,
+        cells: &[Cell],
+        classes: &Classes,
+        place: u32,
+    ) -> Result<(), AllocError> {
+        if place >= classes.len() {
+            return Ok(());
+        }
+        self.places.cone.begin(cells, place, classes.rep(place))?;
+        self.derive_both(alloc, classes, place)
+    }
+
+    // Derives it in its two cases.
+    fn derive_both(
+        &mut self,
+        alloc: Global,
+        classes: &Classes,
+        place: u32,
+    ) -> Result<(), AllocError> {
+        let (x, y) = self.places.literals_of(classes, place);
+        let least = self.derive_case(alloc, classes, place, x, y.wrapping_neg())?;
+        let other = self.derive_case(alloc, classes, place, x.wrapping_neg(), y)?;
+        let lines = Derived {
+            least,
+            place: other,
+        };
+        set_derived(&mut self.places.derived, place, lines);
+        Ok(())
+    }
+
+    // Derives that not both of two literals hold, and answers the number of the line, or 0.
+    fn derive_case(
+        &mut self,
+        alloc: Global,
+        classes: &Classes,
+        place: u32,
+        first: i32,
+        second: i32,
+    ) -> Result<u64, AllocError> {
+        let mut case = Case {
+            first,
+            second,
+            own: no_clauses(alloc, self.refuter.vars)?,
+            lines: Vec::new(alloc),
+        };
+        let derived = self.derive_in(alloc, classes, place, &mut case);
+        drop(case);
+        derived
+    }
+
+    fn derive_in(
+        &mut self,
+        alloc: Global,
+        classes: &Classes,
+        place: u32,
+        case: &mut Case,
+    ) -> Result<u64, AllocError> {
+        case.add_literals()?;
+        self.places.add_known(classes, place, case)?;
+        match self.refuter.refute(alloc, &case.own)? {
+            None => Ok(0),
+            Some(log) => self.lines.take_over(alloc, case, log),
+        }
+    }
+
+    // The log by what is derived.
+    fn log_so_far(
+        &self,
+        alloc: Global,
+        classes: &Classes,
+        place: u32,
+    ) -> Result<Option<Log>, AllocError> {
+        let known = self.places.derived_at(place);
+        let last = if known.least < known.place {
+            known.place
+        } else {
+            known.least
+        };
+        if known.least == 0 || known.place == 0 || last > self.lines.log.len() {
+            return Ok(None);
+        }
+        let (x, _) = self.places.literals_of(classes, place);
+        Ok(Some(self.lines.log_to(alloc, last, known, x)?))
     }
 }
 

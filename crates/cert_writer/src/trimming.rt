@@ -120,8 +120,7 @@ fn keep_line(
     ensures { OnOk result (kept.new ≡ kept.old ++ renumbered given before.now (line_at log.now i) ∷ []) }
 {
     renumber(given, before, log.hints(i), hints)?;
-    kept.add(log.clause(i), hints.as_slice())?;
-    Ok(())
+    kept.add(log.clause(i), hints.as_slice())
 }
 
 // The lines that are marked.

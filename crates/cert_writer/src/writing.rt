@@ -46,11 +46,10 @@ fn push_tie(tied: bool, text: &mut Vec<u8>) -> Result<(), AllocError>
     ensures { OnOk result (text.new.items ≡ text.old.items ++ tie_text tied) }
 {
     if tied {
-        text.extend_from_slice(b" tie=1\n")?;
+        text.extend_from_slice(b" tie=1\n")
     } else {
-        text.extend_from_slice(b" tie=0\n")?;
+        text.extend_from_slice(b" tie=0\n")
     }
-    Ok(())
 }
 
 // Adds line 1.

@@ -1,4 +1,3 @@
-use Rattle.std.proofs.Common.{ℕ, List}
 use Rattle.cert_writer.proofs.Adding.{both_parts}
 use Rattle.cert_writer.proofs.writing.push_member.Goals as goal
 
