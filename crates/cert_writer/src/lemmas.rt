@@ -179,14 +179,6 @@ impl Cone {
         }
     }
 
-    // Meets what two places come down to, and nothing else.
-    fn begin(&mut self, cells: &[Cell], place: u32, rep: u32) -> Result<(), AllocError> {
-        self.clear();
-        self.meet(place)?;
-        self.meet(rep)?;
-        self.descend(cells)
-    }
-
     // Meets a place.
     fn meet(&mut self, place: u32) -> Result<(), AllocError> {
         let row = place as usize;
@@ -252,13 +244,6 @@ impl Case {
         add_clause(&mut self.own, &[self.first])?;
         add_clause(&mut self.own, &[self.second])
     }
-
-    // Adds the clause of an earlier line.
-    fn add_line(&mut self, a: i32, b: i32, line: u64) -> Result<(), AllocError> {
-        add_clause(&mut self.own, &[a, b])?;
-        self.lines.push(line)?;
-        Ok(())
-    }
 }
 
 // The places of a frame, whose variables begin past `base`: what is derived of each, and those that are met.
@@ -322,22 +307,16 @@ impl Places {
     // Adds what is derived of the places of the cone.
     fn add_known(&self, classes: &Classes, place: u32, case: &mut Case) -> Result<(), AllocError> {
         for q in &self.cone.places {
-            if *q != place {
-                self.add_known_of(classes, *q, case)?;
+            let known = self.derived_at(*q);
+            if *q != place && known.least != 0 && known.place != 0 {
+                let (x, y) = self.literals_of(classes, *q);
+                add_clause(&mut case.own, &[x.wrapping_neg(), y])?;
+                case.lines.push(known.least)?;
+                add_clause(&mut case.own, &[x, y.wrapping_neg()])?;
+                case.lines.push(known.place)?;
             }
         }
         Ok(())
-    }
-
-    // Adds what is derived of a place.
-    fn add_known_of(&self, classes: &Classes, q: u32, case: &mut Case) -> Result<(), AllocError> {
-        let known = self.derived_at(q);
-        if known.least == 0 || known.place == 0 {
-            return Ok(());
-        }
-        let (x, y) = self.literals_of(classes, q);
-        case.add_line(x.wrapping_neg(), y, known.least)?;
-        case.add_line(x, y.wrapping_neg(), known.place)
     }
 }
 
@@ -612,15 +591,6 @@ impl Lines {
         add_line(log, &[], &[question, holds, least, both])
     }
 
-    // The new number of a hint.
-    fn new_number(&self, hint: u64, numbers: &[u64]) -> u64 {
-        if hint <= self.given {
-            hint
-        } else {
-            number_at(numbers, hint - self.given - 1)
-        }
-    }
-
     // The hints with their new numbers, in place of what the buffer had.
     fn renumber(
         &self,
@@ -630,7 +600,11 @@ impl Lines {
     ) -> Result<(), AllocError> {
         hints.clear();
         for hint in old {
-            hints.push(self.new_number(*hint, numbers))?;
+            if *hint <= self.given {
+                hints.push(*hint)?;
+            } else {
+                hints.push(number_at(numbers, *hint - self.given - 1))?;
+            }
         }
         Ok(())
     }
@@ -686,17 +660,10 @@ impl Lemmas {
         if place >= classes.len() {
             return Ok(());
         }
-        self.places.cone.begin(cells, place, classes.rep(place))?;
-        self.derive_both(alloc, classes, place)
-    }
-
-    // Derives it in its two cases.
-    fn derive_both(
-        &mut self,
-        alloc: Global,
-        classes: &Classes,
-        place: u32,
-    ) -> Result<(), AllocError> {
+        self.places.cone.clear();
+        self.places.cone.meet(place)?;
+        self.places.cone.meet(classes.rep(place))?;
+        self.places.cone.descend(cells)?;
         let (x, y) = self.places.literals_of(classes, place);
         let least = self.derive_case(alloc, classes, place, x, y.wrapping_neg())?;
         let other = self.derive_case(alloc, classes, place, x.wrapping_neg(), y)?;

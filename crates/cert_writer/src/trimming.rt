@@ -123,6 +123,31 @@ fn keep_line(
     kept.add(log.clause(i), hints.as_slice())
 }
 
+// Adds the lines that are marked to a log without lines.
+fn add_marked(
+    alloc: Global,
+    given: u64,
+    log: &Log,
+    marks: &[bool],
+    kept: &mut Log,
+) -> Result<(), AllocError>
+    requires needed { AreNeeded given log.now marks.now }
+    requires empty { kept.old ≡ [] }
+    ensures accepted { OnOk result ((formula : Formula) → length formula.clauses ≡ given → IsAccepted formula log.now → IsAccepted formula kept.new) }
+    ensures trimmed { OnOk result (IsTrimmed given kept.new) }
+    ensures clauses { OnOk result (IsSubsequence (clauses_of kept.new) (clauses_of log.now)) }
+{
+    let mut before = Vec::new(alloc);
+    let mut hints = Vec::new(alloc);
+    for i in 0..log.len() {
+        before.push(kept.len())?;
+        if marks[i as usize] {
+            keep_line(given, before.as_slice(), log, i, &mut hints, kept)?;
+        }
+    }
+    Ok(())
+}
+
 // The lines that are marked.
 fn marked_lines(alloc: Global, given: u64, log: &Log, marks: &[bool]) -> Result<Log, AllocError>
     requires needed { AreNeeded given log.now marks.now }
@@ -131,15 +156,13 @@ fn marked_lines(alloc: Global, given: u64, log: &Log, marks: &[bool]) -> Result<
     ensures clauses { IfOk result (λ kept. IsSubsequence (clauses_of kept) (clauses_of log.now)) }
 {
     let mut kept = Log::new(alloc);
-    let mut before = Vec::new(alloc);
-    let mut hints = Vec::new(alloc);
-    for i in 0..log.len() {
-        before.push(kept.len())?;
-        if marks[i as usize] {
-            keep_line(given, before.as_slice(), log, i, &mut hints, &mut kept)?;
+    match add_marked(alloc, given, log, marks, &mut kept) {
+        Ok(()) => Ok(kept),
+        Err(error) => {
+            drop(kept);
+            Err(error)
         }
     }
-    Ok(kept)
 }
 
 /// The lines of a log that its last line reaches through hints, in their order and with new numbers, where the formula has

@@ -515,10 +515,14 @@ fn push_parts(
     ensures { OnOk result (AddsMembers product.now k classes.now text.old.items text.new.items) }
 {
     let _places = classes.len();
-    let frames = frames_of(alloc, product, k, classes)?;
-    let pushed = push_over(alloc, product, k, classes, &frames, text);
-    drop(frames);
-    pushed
+    match frames_of(alloc, product, k, classes) {
+        Ok(frames) => {
+            let pushed = push_over(alloc, product, k, classes, &frames, text);
+            drop(frames);
+            pushed
+        }
+        Err(error) => Err(error),
+    }
 }
 
 // Adds the parts of all places, over these frames.

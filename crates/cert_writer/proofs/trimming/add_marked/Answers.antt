@@ -3,8 +3,8 @@ use Rattle.sat_log.specs.Derivations.{Line, IsAccepted, clauses_of}
 use Rattle.cert_writer.specs.Trimming.{IsTrimmed, IsSubsequence}
 use Rattle.cert_writer.proofs.Ranks.{kept_to, before_next, few_before, kept_next, passed_next}
 use Rattle.cert_writer.proofs.Kept.{kept_accepted, kept_trimmed, kept_clauses}
-use Rattle.cert_writer.proofs.trimming.marked_lines.Goals as goal
-use Rattle.cert_writer.proofs.trimming.marked_lines.Goals.{then-marks-i+in_ok-keep_line, else-marks-i}
+use Rattle.cert_writer.proofs.trimming.add_marked.Goals as goal
+use Rattle.cert_writer.proofs.trimming.add_marked.Goals.{then-marks-i+in_ok-keep_line, else-marks-i}
 
 pub keep_line-requires-clause-few : goal.keep_line-requires-clause-few
 keep_line-requires-clause-few c =

@@ -1,6 +1,6 @@
 use Rattle.std.proofs.Common.{◌≡◌}
 use Rattle.cert_writer.proofs.Ranks.{ranks, kept_to}
-use Rattle.cert_writer.proofs.trimming.marked_lines.Given as goal
+use Rattle.cert_writer.proofs.trimming.add_marked.Given as goal
 
 abbrev pub invariant-loop-i : goal.invariant-loop-i
 invariant-loop-i l = record {
