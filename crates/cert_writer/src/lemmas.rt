@@ -493,32 +493,18 @@ impl Lines {
     {
         let mut log = Log::new(alloc);
         let mut numbers = Vec::new(alloc);
-        let collected = self.collect_into(alloc, marks, last, known, x, &mut numbers, &mut log);
+        let kept = match self.keep_marked(alloc, marks, last, &mut numbers, &mut log) {
+            Ok(()) => self.end_log(known, x, numbers.as_slice(), &mut log),
+            Err(error) => Err(error),
+        };
         drop(numbers);
-        match collected {
+        match kept {
             Ok(()) => Ok(log),
             Err(error) => {
                 drop(log);
                 Err(error)
             }
         }
-    }
-
-    // Adds them to a log, and their numbers by line to a list.
-    fn collect_into(
-        &self,
-        alloc: Global,
-        marks: &[bool],
-        last: u64,
-        known: Derived,
-        x: i32,
-        numbers: &mut Vec<u64>,
-        log: &mut Log,
-    ) -> Result<(), AllocError>
-        requires { last ≤ length self.now.log }
-    {
-        self.keep_marked(alloc, marks, last, numbers, log)?;
-        self.end_log(known, x, numbers.as_slice(), log)
     }
 
     // Adds the lines that are marked.
