@@ -1,12 +1,11 @@
 -- Where loading stops.
-use Rattle.std.proofs.Common.{◌≡◌, ◌∙◌, ◌+◌, ◌<◌, ◌≤◌, ◌⊎◌, ℕ, List, [], ◌∷◌, length, slice_index_or, Option, refl, sym, ap, subst, arith, inl, inr}
-use Rattle.std.proofs.lemmas.List.{get_or_default}
+use Rattle.std.proofs.Common.{◌≡◌, ◌<◌, ℕ, List, [], ◌∷◌, length, slice_index_or, Option, refl, arith, inl, inr}
 use Rattle.circ_model.specs.Meaning.{Pair}
 use Rattle.pair_files.specs.declared.fault.Side.{Side}
 use Rattle.pair_files.specs.declared.fault.Side.TheVariants.{Left, Right}
 use Rattle.pair_files.specs.declared.fault.Unpaired.{Unpaired}
 use Rattle.pair_files.specs.declared.fault.Unpaired.TheVariants as unpaired
-use Rattle.pair_files.specs.Pairs.{IsLoadFailed, IsNoPair}
+use Rattle.pair_files.specs.Pairs.{IsLoadFailed}
 use Rattle.pair_files.specs.Loads.{failed_side}
 use Rattle.run_texts.specs.Told.{name_of_side}
 use Rattle.batch_run.specs.declared.loading.Loaded.{Loaded}

@@ -10,15 +10,21 @@ use Rattle.pair_pool.specs.declared.slots.Solved.{Solved}
 use Rattle.pair_pool.specs.Outcomes.{IsOutcome, verdict_of}
 use Rattle.pair_pool.specs.Solutions.{AreOutcomes}
 use Rattle.run_texts.specs.Verdicts.{status_of_verdict, verdict_line}
+use Rattle.batch_run.specs.declared.loading.Loaded.{Loaded}
 use Rattle.batch_run.specs.declared.loading.Loaded.TheVariants as loaded
-use Rattle.batch_run.specs.Loads.{IsLoaded}
-use Rattle.batch_run.specs.Answers.{Answered, AreAnswered, AreFirstAnswers, IsAnswerAt, IsAnswerOf, WritesAnswer, WritesLine, greatest, printed}
+use Rattle.batch_run.specs.Loads.{AreLoaded, IsLoaded}
+use Rattle.batch_run.specs.Answers.{Answered, AreAnswered, AreFirstAnswers, IsAnswerAt, IsAnswerOf, WritesAnswer, WritesLine, printed}
 
 abbrev Files : Type 0
 Files = List ℕ → Option (List ℕ)
 
 abbrev Name2 : Type 0
 Name2 = List ℕ × List ℕ
+
+-- what the pair at a place of the list was found to be
+pub loaded_at : (file : Files) (products : List Pair) (list : List Name2) (found : List Loaded) (at : ℕ) (names : Name2) (e : Loaded) → names ≡ slice_index_or list at names → at < length found
+    → AreLoaded file products list found → IsLoaded file products names (slice_index_or found at e)
+loaded_at file products list found at names e is lt are = subst (λ (n : Name2). IsLoaded file products n (slice_index_or found at e)) (sym is) (are at names e lt)
 
 -- the verdict of the product at a place is that of its files
 pub verdict_written : {E : Type 0} (r : Result ℕ E) (file : Files) (k at : ℕ) (names : Name2) (before after : List ℕ) (products : List Pair) (solved : List Solved) (pair : Pair) (s : Solved)

@@ -2,7 +2,7 @@
 use Rattle.std.specs.Prelude.{◌≡◌, ℕ, ◌<◌, ◌++◌, ◌⊎◌, List, [], length, slice_index_or, HoldsAt, false, Option, Result, Ok, Err}
 use Rattle.circ_model.specs.Meaning.{Pair}
 use Rattle.pair_files.specs.declared.fault.Unpaired.{Unpaired}
-use Rattle.pair_files.specs.Pairs.{ArePair, IsNoPair, IsLoadFailed}
+use Rattle.pair_files.specs.Pairs.{ArePair, IsNoPair}
 use Rattle.pair_files.specs.Loads.{failed_side}
 use Rattle.run_texts.specs.Told.{unpaired_status}
 use Rattle.batch_run.specs.declared.loading.Loaded.{Loaded}

@@ -10,7 +10,7 @@ ghost use Rattle.batch_run.specs.Answers.{IsBatch, WritesAnswer, WritesLine};
 ghost use Rattle.batch_run.specs.Loads.{AreLoaded, AreWithinProducts, IsLoaded, IsWithinProducts};
 
 use crate::batch::Batch;
-use crate::loading::{Loaded, Pairs};
+use crate::loading::Loaded;
 use crate::page::unpaired_page;
 use pair_files::Unpaired;
 use pair_list::Names;
@@ -18,6 +18,14 @@ use pair_pool::{Outcome, Outputs, Solved};
 use product_machine::Product;
 use run_texts::{different_line, equivalent_line, push_numbers, undecided_head};
 use std::alloc::{AllocError, Global};
+
+/// What came of the pairs that have a product, by induction over k frames, in the order of the products.
+#[derive(Drop)]
+pub(crate) struct Settled<'a> {
+    pub(crate) products: &'a [Product],
+    pub(crate) solved: &'a [Solved],
+    pub(crate) k: u32,
+}
 
 // Adds the line of outputs that aren't paired.
 fn push_undecided(
@@ -84,18 +92,23 @@ fn push_answer(
     alloc: Global,
     names: &Names,
     loaded: Loaded,
-    products: &[Product],
-    solved: &[Solved],
-    k: u32,
+    settled: &Settled<'_>,
     text: &mut Vec<u8>,
 ) -> Result<u8, AllocError>
-    requires outcomes { AreOutcomes products.now k solved.now }
-    requires place { IsWithinProducts products.now loaded }
-    ensures answer { (file : List ℕ → Option (List ℕ)) → IsLoaded file products.now names.now loaded → IfOk result (WritesAnswer file k names.now text.old.items text.new.items) }
+    requires outcomes { AreOutcomes settled.now.products.now settled.now.k settled.now.solved.now }
+    requires place { IsWithinProducts settled.now.products.now loaded }
+    ensures answer { (file : List ℕ → Option (List ℕ)) → IsLoaded file settled.now.products.now names.now loaded → IfOk result (WritesAnswer file settled.now.k names.now text.old.items text.new.items) }
     ensures status { IfOk result (λ s. (s ≤ 2) ⊎ (s ≡ 4)) }
 {
     match loaded {
-        Loaded::Product(at) => push_verdict(alloc, &products[at], k, &solved[at].outcome, text),
+        Loaded::Product(at) => {
+            let Settled {
+                products,
+                solved,
+                k,
+            } = settled;
+            push_verdict(alloc, &products[at], *k, &solved[at].outcome, text)
+        }
         Loaded::Refused(unpaired) => {
             push_refusal(alloc, names, unpaired, text)?;
             Ok(4)
@@ -115,50 +128,40 @@ fn push_place(alloc: Global, number: usize, text: &mut Vec<u8>) -> Result<(), Al
 fn push_line(
     alloc: Global,
     list: &[Names],
-    pairs: &Pairs,
-    solved: &[Solved],
-    k: u32,
+    loaded: &[Loaded],
+    settled: &Settled<'_>,
     at: usize,
     text: &mut Vec<u8>,
 ) -> Result<u8, AllocError>
     requires place { at < length list.now }
-    requires loaded { length pairs.now.loaded.items ≡ length list.now }
-    requires within { AreWithinProducts pairs.now.products.items pairs.now.loaded.items }
-    requires outcomes { AreOutcomes pairs.now.products.items k solved.now }
-    ensures line { (file : List ℕ → Option (List ℕ)) → AreLoaded file pairs.now.products.items list.now pairs.now.loaded.items → IfOk result (WritesLine file k list.now at text.old.items text.new.items) }
+    requires loaded { length loaded.now ≡ length list.now }
+    requires within { AreWithinProducts settled.now.products.now loaded.now }
+    requires outcomes { AreOutcomes settled.now.products.now settled.now.k settled.now.solved.now }
+    ensures line { (file : List ℕ → Option (List ℕ)) → AreLoaded file settled.now.products.now list.now loaded.now → IfOk result (WritesLine file settled.now.k list.now at text.old.items text.new.items) }
     ensures status { IfOk result (λ s. (s ≤ 2) ⊎ (s ≡ 4)) }
 {
     push_place(alloc, at + 1, text)?;
-    let loaded = pairs.loaded[at];
-    push_answer(
-        alloc,
-        &list[at],
-        loaded,
-        pairs.products.as_slice(),
-        solved,
-        k,
-        text,
-    )
+    let found = loaded[at];
+    push_answer(alloc, &list[at], found, settled, text)
 }
 
 /// The lines of all pairs, in the list's order, and the greatest status.
 pub(crate) fn write_answers(
     alloc: Global,
     list: &[Names],
-    pairs: &Pairs,
-    solved: &[Solved],
-    k: u32,
+    loaded: &[Loaded],
+    settled: &Settled<'_>,
 ) -> Result<Batch, AllocError>
-    requires loaded { length pairs.now.loaded.items ≡ length list.now }
-    requires within { AreWithinProducts pairs.now.products.items pairs.now.loaded.items }
-    requires outcomes { AreOutcomes pairs.now.products.items k solved.now }
-    ensures batch { (file : List ℕ → Option (List ℕ)) → AreLoaded file pairs.now.products.items list.now pairs.now.loaded.items → IfOk result (λ b. IsBatch file k list.now b.text.items b.status) }
+    requires loaded { length loaded.now ≡ length list.now }
+    requires within { AreWithinProducts settled.now.products.now loaded.now }
+    requires outcomes { AreOutcomes settled.now.products.now settled.now.k settled.now.solved.now }
+    ensures batch { (file : List ℕ → Option (List ℕ)) → AreLoaded file settled.now.products.now list.now loaded.now → IfOk result (λ b. IsBatch file settled.now.k list.now b.text.items b.status) }
     ensures status { IfOk result (λ b. (b.status ≤ 2) ⊎ (b.status ≡ 4)) }
 {
     let mut text = Vec::new(alloc);
     let mut status = 0u8;
     for at in 0..list.len() {
-        let one = push_line(alloc, list, pairs, solved, k, at, &mut text)?;
+        let one = push_line(alloc, list, loaded, settled, at, &mut text)?;
         status = status.max(one);
     }
     Ok(Batch { text, status })

@@ -5,9 +5,10 @@ ghost use Rattle.batch_run.specs.Answers.{IsBatch};
 ghost use Rattle.batch_run.specs.Endings.{EndsBytes, EndsList, IsBatchEnding, IsFailed, IsListRead, IsStopOf, failed_in_batch};
 ghost use Rattle.batch_run.specs.Loads.{AreLoaded, AreWithinProducts};
 
-use crate::answering::write_answers;
+use crate::answering::{Settled, write_answers};
 use crate::ending::Unanswered;
 use crate::loading::{Pairs, Stop, load_all};
+use crate::plan::Plan;
 use pair_files::Unpaired;
 use pair_list::{ListError, Names, read_list};
 use pair_pool::run_pairs;
@@ -34,21 +35,24 @@ fn answer_all<R: Threads + Wait + Sync, G: Gate>(
     alloc: Global,
     list: &[Names],
     pairs: &Pairs,
-    k: u32,
-    workers: u32,
+    plan: &Plan,
     gate: &G,
 ) -> Result<Batch, AllocError>
     requires few { length list.now ≤ 10000 }
     requires products { length pairs.now.products.items ≤ length list.now }
     requires loaded { length pairs.now.loaded.items ≡ length list.now }
     requires within { AreWithinProducts pairs.now.products.items pairs.now.loaded.items }
-    requires depth { (0 < k) × (k ≤ 16) }
-    requires workers { (0 < workers) × (workers ≤ 64) }
-    ensures batch { (file : List ℕ → Option (List ℕ)) → AreLoaded file pairs.now.products.items list.now pairs.now.loaded.items → IfOk result (λ b. IsBatch file k list.now b.text.items b.status) }
+    ensures batch { (file : List ℕ → Option (List ℕ)) → AreLoaded file pairs.now.products.items list.now pairs.now.loaded.items → IfOk result (λ b. IsBatch file plan.now.k list.now b.text.items b.status) }
     ensures status { IfOk result (λ b. (b.status ≤ 2) ⊎ (b.status ≡ 4)) }
 {
-    let solved = run_pairs(rt, alloc, pairs.products.as_slice(), k, workers, gate)?;
-    write_answers(alloc, list, pairs, solved.as_slice(), k)
+    let products = pairs.products.as_slice();
+    let solved = run_pairs(rt, alloc, products, plan.k, plan.workers, gate)?;
+    let settled = Settled {
+        products,
+        solved: solved.as_slice(),
+        k: plan.k,
+    };
+    write_answers(alloc, list, pairs.loaded.as_slice(), &settled)
 }
 
 // Why a batch answers nothing whose loading stopped.
@@ -69,14 +73,11 @@ fn run_list<R: Threads + Wait + Sync, S: Shelf, G: Gate>(
     alloc: Global,
     shelf: &mut S,
     list: Vec<Names>,
-    k: u32,
-    workers: u32,
+    plan: &Plan,
     gate: &G,
 ) -> Result<Batch, Unanswered>
     requires few { length list.items ≤ 10000 }
-    requires depth { (0 < k) × (k ≤ 16) }
-    requires workers { (0 < workers) × (workers ≤ 64) }
-    ensures ending { IsTrue S.tells → EndsList (S.file shelf.old) k list.items result }
+    ensures ending { IsTrue S.tells → EndsList (S.file shelf.old) plan.now.k list.items result }
     ensures read { IsListRead result }
     ensures status { IfOk result (λ b. (b.status ≤ 2) ⊎ (b.status ≡ 4)) }
     ensures failed { IfErr result (λ u. IsFailed u → Rose (S.load_faults shelf.old) (S.load_faults shelf.new)) }
@@ -86,7 +87,7 @@ fn run_list<R: Threads + Wait + Sync, S: Shelf, G: Gate>(
     ensures store_count { S.store_faults shelf.new ≡ S.store_faults shelf.old }
 {
     match load_all(alloc, shelf, list.as_slice()) {
-        Ok(pairs) => match answer_all(rt, alloc, list.as_slice(), &pairs, k, workers, gate) {
+        Ok(pairs) => match answer_all(rt, alloc, list.as_slice(), &pairs, plan, gate) {
             Ok(batch) => Ok(batch),
             Err(_) => Err(Unanswered::Memory),
         },
@@ -100,13 +101,10 @@ fn run_bytes<R: Threads + Wait + Sync, S: Shelf, G: Gate>(
     alloc: Global,
     shelf: &mut S,
     bytes: &[u8],
-    k: u32,
-    workers: u32,
+    plan: &Plan,
     gate: &G,
 ) -> Result<Batch, Unanswered>
-    requires depth { (0 < k) × (k ≤ 16) }
-    requires workers { (0 < workers) × (workers ≤ 64) }
-    ensures ending { IsTrue S.tells → EndsBytes (S.file shelf.old) k bytes.now result }
+    ensures ending { IsTrue S.tells → EndsBytes (S.file shelf.old) plan.now.k bytes.now result }
     ensures read { IsListRead result }
     ensures status { IfOk result (λ b. (b.status ≤ 2) ⊎ (b.status ≡ 4)) }
     ensures failed { IfErr result (λ u. IsFailed u → Rose (S.load_faults shelf.old) (S.load_faults shelf.new)) }
@@ -116,27 +114,24 @@ fn run_bytes<R: Threads + Wait + Sync, S: Shelf, G: Gate>(
     ensures store_count { S.store_faults shelf.new ≡ S.store_faults shelf.old }
 {
     match read_list(alloc, bytes) {
-        Ok(list) => run_list(rt, alloc, shelf, list, k, workers, gate),
+        Ok(list) => run_list(rt, alloc, shelf, list, plan, gate),
         Err(ListError::Refused(fault)) => Err(Unanswered::ListRefused(fault)),
         Err(ListError::Memory) => Err(Unanswered::Memory),
     }
 }
 
-/// The batch of the list in a file: all files of its pairs are loaded and read in the list's order, and then the pairs are settled by
-/// so many workers, by induction over k frames. A pair that has no product gets what a check tells of it; a file that can't be loaded
+/// The batch of the list in a file: all files of its pairs are loaded and read in the list's order, and then the pairs are settled as
+/// planned. A pair that has no product gets what a check tells of it; a file that can't be loaded
 /// ends the batch.
 pub fn run_batch<R: Threads + Wait + Sync, S: Shelf, G: Gate>(
     rt: &R,
     alloc: Global,
     shelf: &mut S,
     list: &str,
-    k: u32,
-    workers: u32,
+    plan: &Plan,
     gate: &G,
 ) -> Result<Batch, Unanswered>
-    requires depth { (0 < k) × (k ≤ 16) }
-    requires workers { (0 < workers) × (workers ≤ 64) }
-    ensures ending { IsTrue S.tells → IsBatchEnding (S.file shelf.old) k list.now result }
+    ensures ending { IsTrue S.tells → IsBatchEnding (S.file shelf.old) plan.now.k list.now result }
     ensures status { IfOk result (λ b. (b.status ≤ 2) ⊎ (b.status ≡ 4)) }
     ensures failed { IfErr result (λ u. IsFailed u → Rose (S.load_faults shelf.old) (S.load_faults shelf.new)) }
     ensures files { S.file shelf.new ≡ S.file shelf.old }
@@ -146,7 +141,7 @@ pub fn run_batch<R: Threads + Wait + Sync, S: Shelf, G: Gate>(
 {
     let mut bytes = Vec::new(alloc);
     match shelf.load(list, LONGEST_LIST, &mut bytes) {
-        Ok(()) => run_bytes(rt, alloc, shelf, bytes.as_slice(), k, workers, gate),
+        Ok(()) => run_bytes(rt, alloc, shelf, bytes.as_slice(), plan, gate),
         Err(LoadFault::TooLong) => Err(Unanswered::ListTooLong),
         Err(LoadFault::Failed) => Err(Unanswered::ListFailed),
         Err(LoadFault::Memory) => Err(Unanswered::Memory),

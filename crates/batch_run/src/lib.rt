@@ -8,8 +8,10 @@ mod batch;
 mod ending;
 mod loading;
 mod page;
+mod plan;
 mod telling;
 
 pub use batch::{Batch, run_batch};
 pub use ending::Unanswered;
+pub use plan::Plan;
 pub use telling::{tell_unanswered, unanswered_status};

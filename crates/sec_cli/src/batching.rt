@@ -5,7 +5,7 @@ ghost use Rattle.command_line.specs.Asked.{IsBatchWithin, batch_asked};
 ghost use Rattle.sec_cli.specs.Endings.{IsBatchEnded, IsLoadEnding, failed_names};
 
 use crate::ending::{Answer, Refusal};
-use batch_run::run_batch;
+use batch_run::{Plan, run_batch};
 use command_line::Batch;
 use sec_base::{Gate, Shelf};
 use std::alloc::Global;
@@ -30,7 +30,8 @@ pub(crate) fn batch_ending<R: Threads + Wait + Sync, S: Shelf, G: Gate>(
     ensures load_count { S.load_faults shelf.old ≤ S.load_faults shelf.new }
     ensures store_count { S.store_faults shelf.new ≡ S.store_faults shelf.old }
 {
-    match run_batch(rt, alloc, shelf, b.list, b.k, b.workers, gate) {
+    let plan = Plan::new(b.k, b.workers);
+    match run_batch(rt, alloc, shelf, b.list, &plan, gate) {
         Ok(batch) => {
             let batch_run::Batch { text, status } = batch;
             Ok(Answer {

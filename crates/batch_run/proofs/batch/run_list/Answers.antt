@@ -1,4 +1,4 @@
-use Rattle.std.proofs.Common.{◌≡◌, ◌∙◌, ◌<◌, ℕ, List, Option, length, sym, subst}
+use Rattle.std.proofs.Common.{◌∙◌, ◌<◌, ℕ, List, Option, length, sym, subst}
 use Rattle.batch_run.specs.Answers.{IsBatch}
 use Rattle.batch_run.specs.Loads.{AreLoaded, IsStopped}
 use Rattle.batch_run.proofs.Concluding.{stop_ends}
@@ -10,7 +10,7 @@ returns-in-Ok-answer_all-clause-ending g c told =
     let batch = c.in-Ok-answer_all.batch in
     let pairs = c.in-Ok.pairs in
     let loaded = subst (λ (l : List (List ℕ × List ℕ)). AreLoaded file pairs.products.items l pairs.loaded.items) (c.as_slice.ensures.value ∙ sym c.as_slice-in-Ok.ensures.value) (c.in-Ok.ensures.loaded told) in
-    subst (λ (l : List (List ℕ × List ℕ)). IsBatch file c.args.k l batch.text.items batch.status) c.as_slice-in-Ok.ensures.value (c.in-Ok-answer_all.ensures.batch file loaded)
+    subst (λ (l : List (List ℕ × List ℕ)). IsBatch file c.args.plan.now.k l batch.text.items batch.status) c.as_slice-in-Ok.ensures.value (c.in-Ok-answer_all.ensures.batch file loaded)
 
 pub returns-clause-ending : goal.returns-clause-ending
 returns-clause-ending g c told =
@@ -18,4 +18,4 @@ returns-clause-ending g c told =
     let stop = c.in-Err.stop in
     let place = subst (λ (l : List (List ℕ × List ℕ)). stop.at < length l) c.as_slice.ensures.value c.in-Err.ensures.place in
     let stopped = subst (λ (l : List (List ℕ × List ℕ)). IsStopped file l stop) c.as_slice.ensures.value (c.in-Err.ensures.stopped told) in
-    stop_ends file c.args.k c.args.list.items stop c.unanswered_at.result place c.unanswered_at.ensures stopped
+    stop_ends file c.args.plan.now.k c.args.list.items stop c.unanswered_at.result place c.unanswered_at.ensures stopped
