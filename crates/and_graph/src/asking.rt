@@ -32,8 +32,9 @@ pub struct Asker {
     cone: Cone,
     clause: Vec<i32>,
     solver: ConeSolver,
-    // a question over a cone of more nodes may be put aside
+    // a question over a cone of more nodes may be put aside, where refutations of late had so many lines and more
     most: Option<u32>,
+    hard: u64,
     // what is put aside, of the cone; and its answer, once there is one
     posed: Option<Posed>,
     answer: Option<Answer>,
@@ -57,18 +58,19 @@ impl Asker {
     pub fn new(alloc: Global) -> Result<Asker, AllocError>
         ensures { IfOk result (λ a. a ≡ record { most = None; aside = None; solved = false }) }
     {
-        Asker::putting_aside(alloc, None)
+        Asker::putting_aside(alloc, None, 0)
     }
 
-    /// Nothing was asked yet. A question over a cone of more nodes than so many is put aside, where it may be.
-    pub fn posing(alloc: Global, most: u32) -> Result<Asker, AllocError>
+    /// Nothing was asked yet. A question over a cone of more nodes than so many is put aside, where it may be, once refutations over
+    /// such cones had so many lines and more of late.
+    pub fn posing(alloc: Global, most: u32, hard: u64) -> Result<Asker, AllocError>
         ensures { IfOk result (λ a. a ≡ record { most = Some most; aside = None; solved = false }) }
     {
-        Asker::putting_aside(alloc, Some(most))
+        Asker::putting_aside(alloc, Some(most), hard)
     }
 
     // Nothing was asked yet.
-    fn putting_aside(alloc: Global, most: Option<u32>) -> Result<Asker, AllocError>
+    fn putting_aside(alloc: Global, most: Option<u32>, hard: u64) -> Result<Asker, AllocError>
         ensures { IfOk result (λ a. a ≡ record { most = most; aside = None; solved = false }) }
     {
         Ok(Asker {
@@ -76,6 +78,7 @@ impl Asker {
             clause: Vec::new(alloc),
             solver: ConeSolver::new(alloc)?,
             most,
+            hard,
             posed: None,
             answer: None,
             found: None,
@@ -153,8 +156,10 @@ impl Asker {
         self.answer = None; // it was another cone's
         let cone = &mut self.cone;
         let given = cone.pose(nodes, lemmas, x, y, u32::MAX, &mut self.clause)?;
+        let mut is_large = false;
         if let Some(most) = self.most {
-            if cone.members.len() > most as usize {
+            is_large = cone.members.len() > most as usize;
+            if is_large && lemmas.effort.is_of(self.hard) {
                 self.solver
                     .begin_with(&lemmas.activity, cone.members.as_slice())?;
                 self.posed = Some(Posed { x, y, given });
@@ -164,6 +169,9 @@ impl Asker {
         let answer = self
             .solver
             .decide_on(alloc, cone, true, &mut lemmas.activity)?;
+        if is_large {
+            lemmas.effort.note(&answer, self.hard.saturating_mul(4));
+        }
         let found = cone.take(alloc, nodes, lemmas, Posed { x, y, given }, &answer)?;
         if let Some(pattern) = &found {
             self.found = Some(Found::of(alloc, x, y, pattern)?);
@@ -259,6 +267,7 @@ impl Asker {
         };
         let Posed { x, y, given } = posed;
         let cone = &self.cone;
+        lemmas.effort.note(&answer, self.hard.saturating_mul(4));
         self.solver
             .leave(&mut lemmas.activity, cone.members.as_slice())?;
         match &answer {

@@ -10,6 +10,7 @@ ghost use Rattle.and_graph.specs.Cones.{AreWithin, Shows};
 ghost use Rattle.and_graph.specs.Lemmas.{AreLemmas, ArePureHints, ClauseHolds, GivenHold, IsPureHint, PureHold};
 
 use crate::activity::Activity;
+use crate::effort::Effort;
 use crate::node::Node;
 use circ_model::Lit;
 use cnf_store::{Arena, Cnf};
@@ -33,8 +34,9 @@ pub(crate) struct Lemmas {
     last: Vec<u32>,
     before: Vec<u32>,
     row: Vec<Lit>,
-    // what questions left of the nodes beside
+    // what questions left of the nodes beside, and how hard they were
     pub activity: Activity,
+    pub effort: Effort,
 }
 
 // The node's literal for which a literal of a member stands.
@@ -100,6 +102,7 @@ impl Lemmas {
             before: Vec::new(alloc),
             row: Vec::new(alloc),
             activity: Activity::new(alloc),
+            effort: Effort::new(),
         }
     }
 

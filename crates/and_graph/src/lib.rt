@@ -13,6 +13,7 @@ mod canonical;
 mod clauses;
 mod cone;
 mod cone_solver;
+mod effort;
 mod frontier;
 mod graph;
 mod halt;

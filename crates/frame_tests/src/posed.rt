@@ -88,7 +88,7 @@ fn are_merged(graph: &Graph, all: [Lit; 3], first: bool) -> bool {
 
 // Whether another asker puts a question aside, and its answer is taken in at once.
 fn is_merged(alloc: Global, graph: &mut Graph, a: Lit, b: Lit) -> bool {
-    match Asker::posing(alloc, 2) {
+    match Asker::posing(alloc, 2, 0) {
         Ok(mut asker) => {
             is_put_aside(alloc, graph, &mut asker, a, b) && is_taken(alloc, graph, &mut asker)
         }
@@ -112,7 +112,7 @@ fn is_settled(
 fn comes_to_one(alloc: Global, merges: bool) -> Result<bool, AllocError> {
     let mut graph = graph_of_leaves(alloc)?;
     let all = products(&mut graph)?;
-    let mut asker = Asker::posing(alloc, 2)?;
+    let mut asker = Asker::posing(alloc, 2, 0)?;
     let settled = is_settled(alloc, &mut graph, &mut asker, all, merges);
     Ok(settled && are_merged(&graph, all, merges))
 }
@@ -144,12 +144,26 @@ fn is_asked_again(alloc: Global, graph: &mut Graph, asker: &mut Asker, a: Lit, b
 fn comes_to_nothing(alloc: Global) -> Result<bool, AllocError> {
     let mut graph = graph_of_leaves(alloc)?;
     let all = products(&mut graph)?;
-    let mut asker = Asker::posing(alloc, 2)?;
+    let mut asker = Asker::posing(alloc, 2, 0)?;
     Ok(is_asked_again(alloc, &mut graph, &mut asker, all[0], all[1]))
 }
 
 #[test]
 fn an_answer_that_does_not_stand_is_not_taken(rt: HostRuntime) -> Result<(), Fail> {
     assert!(rt; comes_to_nothing(rt.alloc())?);
+    Ok(())
+}
+
+// Whether an asker that puts hard questions aside answers a large one at once where none was hard yet.
+fn is_answered_while_easy(alloc: Global) -> Result<bool, AllocError> {
+    let mut graph = graph_of_leaves(alloc)?;
+    let all = products(&mut graph)?;
+    let mut asker = Asker::posing(alloc, 2, 1_000_000)?;
+    Ok(is_equal(alloc, &mut graph, &mut asker, all[0], all[1]))
+}
+
+#[test]
+fn a_large_question_is_answered_while_none_was_hard(rt: HostRuntime) -> Result<(), Fail> {
+    assert!(rt; is_answered_while_easy(rt.alloc())?);
     Ok(())
 }

@@ -1,4 +1,4 @@
-//! Tests of lists of pairs, and of runs over many pairs.
+//! Tests of lists of pairs, of runs over many pairs, and of workers that are woken.
 //! They stand in a crate of their own, so that each library is proved once.
 #![tactic(auto)]
 
@@ -6,3 +6,5 @@
 mod lists;
 #[cfg(test)]
 mod pools;
+#[cfg(test)]
+mod waking;

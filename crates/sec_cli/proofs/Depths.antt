@@ -5,7 +5,7 @@ use Rattle.circ_model.specs.Verdict.{AgreeBelow, Verdict, Equivalent, Different,
 use Rattle.pair_sweep.specs.Sweeps.{Extent}
 use Rattle.verdict_stamp.specs.Known.{Refined}
 use Rattle.verdict_stamp.specs.Versions.{Standing}
-use Rattle.split_workers.specs.Refined.{IsKnownFor, IsMemoryFor}
+use Rattle.prover_table.specs.Tables.{IsKnownFor, IsMemoryFor}
 use Rattle.refine_board.specs.Running.{Written}
 use Rattle.command_line.specs.Asked.{CheckAsked, ClimbAsked, ForClimb}
 use Rattle.sec_cli.specs.declared.checking.Reached.{Reached}

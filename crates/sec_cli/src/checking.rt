@@ -7,7 +7,7 @@ ghost use Rattle.class_partition.specs.Laws.{PairOutput};
 ghost use Rattle.induction_base.specs.Least.{IsLeastOrNone, IsShown};
 ghost use Rattle.command_line.specs.Asked.{check_asked, IsCheckWithin};
 ghost use Rattle.pair_pool.specs.Unpaired.{AreLeftOut};
-ghost use Rattle.split_workers.specs.Refined.{IsMemoryFor};
+ghost use Rattle.prover_table.specs.Tables.{IsMemoryFor};
 ghost use Rattle.sec_cli.specs.Answers.{AreClassLines, IsCertOf, IsCheckAnswer, IsJournalOf, IsRefinedText, IsShownAs, is_refined, stats_lines};
 ghost use Rattle.sec_cli.specs.Climbs.{IsReached};
 

@@ -3,7 +3,7 @@ ghost use Rattle.std.specs.Prelude.{◌≡◌, ◌<◌, ◌≤◌, ◌+◌, IfOk
 ghost use Rattle.circ_model.specs.Verdict.{AgreeBelow};
 ghost use Rattle.class_partition.specs.Classes.{AreOfGreatest};
 ghost use Rattle.induction_base.specs.Least.{IsShown};
-ghost use Rattle.split_workers.specs.Refined.{IsMemoryFor};
+ghost use Rattle.prover_table.specs.Tables.{IsMemoryFor};
 ghost use Rattle.command_line.specs.Asked.{ForClimb, check_asked, climb_asked, IsClimbWithin};
 ghost use Rattle.sec_cli.specs.Endings.{HasJournal};
 ghost use Rattle.sec_cli.specs.Answers.{IsCheckAnswer, is_refined};

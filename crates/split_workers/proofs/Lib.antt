@@ -1,5 +1,2 @@
-mod Ends
-mod Steps
 mod Reported
-pub mod Finds
 mod Held

@@ -6,7 +6,7 @@ use Rattle.std.proofs.lemmas.List.Sums.{count_by_more_yes, count_by_more_no, cou
 use Rattle.refine_board.specs.declared.journal.Step.{Step}
 use Rattle.refine_board.specs.declared.journal.Entry.{Entry}
 use Rattle.refine_board.specs.Tallies.{is_offered, is_split, is_back}
-use Rattle.split_workers.specs.Tallies.{is_done}
+use Rattle.work_desk.specs.Tallies.{is_done}
 use Rattle.split_workers.specs.declared.report.WorkReport.{WorkReport}
 use Rattle.split_workers.specs.Reports.{AreBelow, IsOneMore, entries_of, report_of, one_if, is_idle, is_counted, is_stale, is_already, is_foreign}
 

@@ -5,7 +5,7 @@ use Rattle.refine_board.specs.declared.journal.Step.{Step}
 use Rattle.refine_board.specs.declared.journal.Step.TheVariants.{Idle, Counted, Stale, Already, Foreign}
 use Rattle.refine_board.specs.declared.journal.Entry.{Entry}
 use Rattle.refine_board.specs.Tallies.{is_offered, is_split, is_back}
-use Rattle.split_workers.specs.Tallies.{is_done}
+use Rattle.work_desk.specs.Tallies.{is_done}
 use Rattle.split_workers.specs.declared.report.WorkReport.{WorkReport}
 
 abbrev pub is_idle : Step → Bool

@@ -1,12 +1,10 @@
 -- A worker between its calls: what it holds, and what it owes.
-use Rattle.std.specs.Prelude.{◌≡◌, ℕ, ◌+◌}
-use Rattle.circ_model.specs.Meaning.{Pair}
-use Rattle.refine_board.specs.Running.{IsAbout, IsOf, Owed}
-use Rattle.verdict_stamp.specs.declared.prover.Proof.{Proof}
-use Rattle.verdict_stamp.specs.declared.prover.Proof.TheVariants.{Holds, Splits}
-use Rattle.split_workers.specs.Seats.{Seated}
-use Rattle.split_workers.specs.declared.desk.Asked.{Asked}
-use Rattle.split_workers.specs.declared.desk.Asked.TheVariants.{Work, Idle, Moved, Awaited, Ended, Stopped}
+use Rattle.std.specs.Prelude.{◌≡◌, ℕ, ◌+◌, List}
+use Rattle.std.specs.List.{All}
+use Rattle.refine_board.specs.Running.{Owed}
+use Rattle.work_desk.specs.Seats.{Seated}
+use Rattle.work_desk.specs.declared.desk.Asked.{Asked}
+use Rattle.work_desk.specs.declared.desk.Asked.TheVariants.{Work, Idle, Moved, Awaited, Ended, Stopped}
 
 -- its party, whether it was told that each pair is counted (0 or 1), how many answers it owes, and how many offers it holds with a vector
 pub record Laden : Type 0 where
@@ -35,7 +33,6 @@ IsTold party after Awaited = IsAtWork party 0 after
 IsTold party after Ended = IsAtEnd party after
 IsTold party after Stopped = IsAtWork party 0 after
 
--- what comes of an offered pair: a verdict under the offer's version, or a vector of the run's netlists and k
-abbrev pub IsFoundFor : Pair → ℕ → Owed → Proof → Type 0
-IsFoundFor pair k offer (Holds w) = IsAbout w offer.pair × (w.version ≡ offer.stamp.value)
-IsFoundFor pair k offer (Splits x) = IsOf pair k x
+-- offers that this party holds
+abbrev pub AreHeld : ℕ → List Owed → Type 0
+AreHeld party held = All (λ (o : Owed). o.party ≡ party) held

@@ -2,18 +2,11 @@
 //! its own, and answers. Whatever their schedule, they end at the classes of the greatest correspondence.
 #![tactic(auto)]
 
-mod bench;
-mod desk;
 mod earlier;
-mod found;
-mod lent;
+mod place;
 mod report;
 mod room;
 mod running;
-mod seat;
-mod table;
-#[cfg(test)]
-mod tests;
 mod worker;
 
 pub use earlier::Earlier;

@@ -1,19 +1,18 @@
 //! A run of several workers, from the opening to the classes of the greatest correspondence.
 ghost use Rattle.std.specs.Prelude.{◌≡◌, ◌<◌, ◌≤◌, ◌*◌, ◌^◌, IfOk, IfSome};
 ghost use Rattle.refine_board.specs.Schedules.{opened};
-ghost use Rattle.split_workers.specs.Seats.{HasEnded};
-ghost use Rattle.split_workers.specs.Desks.{IsOutcome};
-ghost use Rattle.split_workers.specs.Refined.{IsEarlierFor, IsKnownFor, IsMemoryFor, IsRefined};
+ghost use Rattle.prover_table.specs.Tables.{IsKnownFor, IsMemoryFor};
+ghost use Rattle.work_desk.specs.Seats.{HasEnded};
+ghost use Rattle.work_desk.specs.Desks.{IsOutcome};
+ghost use Rattle.split_workers.specs.Refined.{IsEarlierFor, IsRefined};
 ghost use Rattle.split_workers.specs.Reports.{AreReports};
 
-use crate::desk::Desk;
 use crate::earlier::Earlier;
-use crate::lent::Lent;
 use crate::report::{WorkReport, reports_of};
 use crate::room::Room;
-use crate::seat::{Seat, seats};
 use crate::worker::work;
 use product_machine::Product;
+use prover_table::Lent;
 use refine_board::{Board, Journal, Run};
 use sec_base::Gate;
 use std::alloc::{AllocError, Global};
@@ -23,6 +22,7 @@ use std::sync::ledger::{Blank, Ledger};
 use std::thread;
 use std::thread::Threads;
 use verdict_stamp::{Known, ProverMemory, Version, Versions};
+use work_desk::{Desk, Seat, seats};
 
 /// What a run comes to.
 #[derive(Drop)]
@@ -38,10 +38,10 @@ pub struct Refined<'p> {
 // The ledgers of a run, for which no name stands yet: of the offers that the board made, of its workers' ends, and of the
 // answers that they owe.
 #[derive(Drop)]
-pub(crate) struct Blanks {
-    pub(crate) offers: Blank,
-    pub(crate) ends: Blank,
-    pub(crate) owed: Blank,
+struct Blanks {
+    offers: Blank,
+    ends: Blank,
+    owed: Blank,
 }
 
 // What a run begins with: the list that it publishes its versions in, its first version, the classes of an earlier k where they

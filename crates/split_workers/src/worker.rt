@@ -2,45 +2,41 @@
 //! out. Questions over large cones it solves away from the table. Pairs that it finds apart it answers together, since each split
 //! opens all pairs again.
 ghost use Rattle.std.specs.Prelude.{◌≡◌, ◌<◌, IfOk, IfSome, true};
-ghost use Rattle.split_workers.specs.Seats.{HasEnded};
-ghost use Rattle.split_workers.specs.Workers.{IsAtWork, IsFoundFor, IsTold, laden};
+ghost use Rattle.prover_table.specs.Tables.{IsFoundFor};
+ghost use Rattle.work_desk.specs.Seats.{HasEnded};
+ghost use Rattle.split_workers.specs.Workers.{IsAtWork, IsTold, laden};
 
-use crate::desk::Asked;
-use crate::found::Found;
-use crate::room::{Caller, Room};
-use crate::seat::Seat;
-use crate::table::Table;
-use bell::Locked;
+use crate::place::Place;
+use crate::room::Room;
 use refine_board::{Offer, Run};
 use sec_base::Gate;
 use std::alloc::{AllocError, Global};
 use std::marker::Model;
 use std::sync::Wait;
 use std::sync::ledger::Ledger;
-use verdict_stamp::{Asker, Halt, Proof};
+use verdict_stamp::{Halt, Proof};
+use work_desk::{Asked, Caller, Found, Seat};
 
 // So many vectors a worker holds at most. Each splits the classes for all, so one that holds many lets others prove pairs in vain.
 const MOST: u64 = 400;
 
-// A question over a cone of more nodes than so many is solved away from the table, where there are others to go on there.
-const LARGE: u32 = 400;
+// How many vectors of so many places a worker holds at most: no more than a quarter of a gigabyte of them.
+fn most_of(places: u32) -> usize {
+    MOST.min((1u64 << 31) / (places as u64 + 1)) as usize
+}
 
-/// A worker, with its asker, the table while it has the turn, and the offers that it holds: pairs that it found apart, each with a
-/// vector.
+/// A worker, with its place at the table, and the offers that it holds: pairs that it found apart, each with a vector.
 #[derive(Drop)]
 pub(crate) struct Worker<'r, 'v, 'p, L: Run, E: Ledger, O: Ledger, G: Gate> {
-    alloc: Global,
     desk: Caller<'r, 'v, 'p, L, E, O, G>,
-    asker: Asker,
-    turn: Option<Locked<'r, Table<'v, 'p, L>>>,
+    place: Place<'r, 'v, 'p, L>,
     pocket: Vec<Found<'p, L>>,
     most: usize,
 }
 
 impl<'r, 'v, 'p, L: Run, E: Ledger, O: Ledger, G: Gate> Model for Worker<'r, 'v, 'p, L, E, O, G> {
     ghost use Rattle.std.specs.Prelude.{length};
-    ghost use Rattle.split_workers.specs.Seats.{AreHeld};
-    ghost use Rattle.split_workers.specs.Workers.{Laden, laden};
+    ghost use Rattle.split_workers.specs.Workers.{AreHeld, Laden, laden};
 
     ghost Value = { Laden };
 
@@ -50,22 +46,20 @@ impl<'r, 'v, 'p, L: Run, E: Ledger, O: Ledger, G: Gate> Model for Worker<'r, 'v,
 }
 
 impl<'r, 'v, 'p, L: Run, E: Ledger, O: Ledger, G: Gate> Worker<'r, 'v, 'p, L, E, O, G> {
-    // A worker that holds nothing. Its vectors have so many places each, and it holds a quarter of a gigabyte of them at most.
+    // A worker that holds nothing.
     fn new(
         alloc: Global,
         desk: Caller<'r, 'v, 'p, L, E, O, G>,
-        asker: Asker,
+        place: Place<'r, 'v, 'p, L>,
+        most: usize,
     ) -> Worker<'r, 'v, 'p, L, E, O, G>
         ensures { result ≡ laden desk.entry 0 }
     {
-        let places = desk.lent().places as u64;
         Worker {
-            alloc,
             desk,
-            asker,
-            turn: None,
+            place,
             pocket: Vec::new(alloc),
-            most: MOST.min((1u64 << 31) / (places + 1)) as usize,
+            most,
         }
     }
 
@@ -90,7 +84,7 @@ impl<'r, 'v, 'p, L: Run, E: Ledger, O: Ledger, G: Gate> Worker<'r, 'v, 'p, L, E,
     fn wait(&mut self, rt: &impl Wait)
         ensures { self.new ≡ self.old }
     {
-        self.turn = None;
+        self.place.let_go();
         self.desk.wait(rt);
     }
 
@@ -98,7 +92,7 @@ impl<'r, 'v, 'p, L: Run, E: Ledger, O: Ledger, G: Gate> Worker<'r, 'v, 'p, L, E,
     fn give_way(&mut self, rt: &impl Wait)
         ensures { self.new ≡ self.old }
     {
-        self.turn = None;
+        self.place.let_go();
         self.desk.give_way(rt);
     }
 
@@ -106,9 +100,7 @@ impl<'r, 'v, 'p, L: Run, E: Ledger, O: Ledger, G: Gate> Worker<'r, 'v, 'p, L, E,
     fn take_turn(&mut self, rt: &impl Wait)
         ensures { self.new ≡ self.old }
     {
-        if self.turn.is_none() {
-            self.turn = Some(self.desk.turn(rt));
-        }
+        self.place.take_turn(rt);
     }
 
     // Asks for work.
@@ -116,66 +108,40 @@ impl<'r, 'v, 'p, L: Run, E: Ledger, O: Ledger, G: Gate> Worker<'r, 'v, 'p, L, E,
         requires { IsAtWork self.old.party 0 self.old }
         ensures { IsTold self.old.party self.new result }
     {
-        let has_turn = self.turn.is_some();
+        let has_turn = self.place.has_turn();
         self.desk.ask(rt, self.pocket.last(), has_turn)
     }
 
-    // Settles an offered pair as far as the table shows it.
+    // Settles an offered pair as far as the table shows it, for which it waits if it hasn't the turn.
     fn find(&mut self, rt: &impl Wait, offer: &Offer<'p, L>) -> Result<Proof<'v, 'p>, Halt>
         ensures kept { self.new ≡ self.old }
         ensures found { IfOk result (IsFoundFor L.pair L.k offer.now) }
     {
-        let Worker {
-            alloc,
-            desk,
-            asker,
-            turn,
-            ..
-        } = self;
-        let mut table = match turn.take() {
-            Some(table) => table,
-            None => desk.awaited_turn(rt),
-        };
-        let found = table.value().settle(*alloc, desk.lent(), asker, offer);
-        *turn = Some(table);
-        found
+        let Worker { desk, place, .. } = self;
+        if !place.has_turn() {
+            place.take_turn(rt);
+            desk.came(rt);
+        }
+        place.settle(rt, offer)
     }
 
     // Away from the table solves the question that is put aside; or, where it rests on a lower pair that another is settling, waits
-    // until that is settled. Where memory runs out it gives its offer up, for which others may wait.
+    // until that is settled.
     fn solve(&mut self, rt: &impl Wait) -> Result<(), AllocError>
         ensures { self.new ≡ self.old }
     {
-        let Worker {
-            alloc,
-            desk,
-            asker,
-            turn,
-            ..
-        } = self;
+        let Worker { desk, place, .. } = self;
         let party = desk.party();
-        let Some(mut table) = turn.take() else {
-            return Ok(());
-        };
-        if let Some((other, member)) = table.value().before(asker, party) {
-            drop(table);
-            desk.wait_for(rt, other, member);
+        if let Some((other, member)) = place.before(rt, party) {
+            place.wait_for(rt, other, member);
             desk.comes(rt);
             return Ok(());
         }
-        drop(table);
-        let solved = asker.solve(*alloc);
+        let solved = place.solve();
         desk.comes(rt);
-        let mut table = desk.awaited_turn(rt);
-        let taken = match solved {
-            Ok(()) => table.value().take_answer(*alloc, asker),
-            Err(error) => Err(error),
-        };
-        if taken.is_err() {
-            table.value().leaves(party);
-        }
-        *turn = Some(table);
-        taken
+        place.take_turn(rt);
+        desk.came(rt);
+        place.take_answer(rt, party, solved)
     }
 
     // Settles an offered pair.
@@ -205,7 +171,7 @@ impl<'r, 'v, 'p, L: Run, E: Ledger, O: Ledger, G: Gate> Worker<'r, 'v, 'p, L, E,
                 self.desk.keep(rt, offer, &verdict);
                 Ok(())
             }
-            Ok(Proof::Splits(vector)) => self.hold(rt, Found { offer, vector }),
+            Ok(Proof::Splits(vector)) => self.hold(rt, Found::new(offer, vector)),
             Err(error) => {
                 self.desk.give_back(rt, offer);
                 Err(error)
@@ -220,8 +186,7 @@ impl<'r, 'v, 'p, L: Run, E: Ledger, O: Ledger, G: Gate> Worker<'r, 'v, 'p, L, E,
         ensures { IsAtWork self.old.party 0 self.new }
     {
         if self.pocket.reserve(1).is_err() {
-            let Found { offer, .. } = found;
-            self.desk.give_back(rt, offer);
+            self.desk.give_back(rt, found.into_offer());
             return Err(AllocError);
         }
         self.pocket.push_reserved(found);
@@ -244,9 +209,8 @@ impl<'r, 'v, 'p, L: Run, E: Ledger, O: Ledger, G: Gate> Worker<'r, 'v, 'p, L, E,
         ensures { self.new ≡ record self.old { owed = 0; held = 0 } }
     {
         self.desk.stop(rt);
-        while let Some(found) = self.pocket.pop() {
-            let Found { offer: held, .. } = found;
-            self.desk.give_back(rt, held);
+        while let Some(held) = self.pocket.pop() {
+            self.desk.give_back(rt, held.into_offer());
         }
     }
 
@@ -293,14 +257,6 @@ impl<'r, 'v, 'p, L: Run, E: Ledger, O: Ledger, G: Gate> Worker<'r, 'v, 'p, L, E,
     }
 }
 
-// An asker of one of so many workers: one that is alone has each question answered at once.
-fn asker_of(alloc: Global, workers: u32) -> Result<Asker, AllocError> {
-    if workers == 1 {
-        return Asker::new(alloc);
-    }
-    Asker::posing(alloc, LARGE)
-}
-
 /// Works in a seat until the end, and gives it back where the worker was told that each pair is counted; else memory ran
 /// out. Either way each offer that it was given is answered or given back by then.
 pub(crate) fn work<'v, 'p, L: Run, E: Ledger, O: Ledger, G: Gate>(
@@ -314,12 +270,12 @@ pub(crate) fn work<'v, 'p, L: Run, E: Ledger, O: Ledger, G: Gate>(
     requires fresh { (seat.ended ≡ 0) × (seat.owed ≡ 0) }
     ensures { IfSome result (HasEnded seat.party) }
 {
-    let mut desk = Caller::new(room, gate, seat);
-    let Ok(asker) = asker_of(alloc, desk.lent().workers) else {
+    let mut desk = Caller::new(&room.desk, gate, seat);
+    let Ok(place) = Place::new(alloc, room) else {
         desk.stop(rt);
         return None;
     };
-    let mut worker = Worker::new(alloc, desk, asker);
+    let mut worker = Worker::new(alloc, desk, place, most_of(room.lent.places));
     if !worker.work(rt) {
         return None;
     }

@@ -1,7 +1,7 @@
 use Rattle.std.proofs.Common.{rules, ◌≡◌, ◌∙◌, ◌<◌, sym, ap, subst, arith, None, IfSome, get_or}
 use denote.Exit.{no}
 use denote.Param.Send.{arg_send, arg_sync, param_send, param_sync}
-use Rattle.split_workers.specs.Seats.{Seated, HasEnded}
+use Rattle.work_desk.specs.Seats.{Seated, HasEnded}
 use Rattle.split_workers.proofs.running.refine_named.Goals as goal
 
 pub map_vec-requires-after_bounds : goal.map_vec-requires-after_bounds

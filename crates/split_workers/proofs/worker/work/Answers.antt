@@ -1,5 +1,5 @@
 use Rattle.std.proofs.Common.{◌≡◌, ◌∙◌, ap, arith, refl, rules}
-use Rattle.split_workers.specs.Seats.{Seated}
+use Rattle.work_desk.specs.Seats.{Seated}
 use Rattle.split_workers.specs.Workers.{IsAtWork, Laden, laden}
 use Rattle.split_workers.proofs.worker.work.Goals as goal
 

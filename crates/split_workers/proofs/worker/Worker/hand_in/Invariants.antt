@@ -1,5 +1,5 @@
 use Rattle.std.proofs.Common.{◌≡◌, length}
-use Rattle.split_workers.specs.Seats.{AreHeld}
+use Rattle.split_workers.specs.Workers.{AreHeld}
 use Rattle.split_workers.proofs.worker.Worker.hand_in.Given as goal
 
 abbrev pub invariant-loop-found : goal.invariant-loop-found

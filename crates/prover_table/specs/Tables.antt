@@ -1,0 +1,27 @@
+-- What is known before a pair is settled at a table, and what comes of it.
+use Rattle.std.specs.Prelude.{◌≡◌, ℕ, ◌≤◌}
+use Rattle.circ_model.specs.Meaning.{Pair}
+use Rattle.boxcar.specs.Table.{Shelves, Shows}
+use Rattle.pair_sweep.specs.Sweeps.{Extent}
+use Rattle.verdict_stamp.specs.Published.{Stamped}
+use Rattle.verdict_stamp.specs.Known.{Refined}
+use Rattle.verdict_stamp.specs.declared.prover.Proof.{Proof}
+use Rattle.verdict_stamp.specs.declared.prover.Proof.TheVariants.{Holds, Splits}
+use Rattle.refine_board.specs.Running.{IsAbout, IsOf, Owed}
+
+-- the frames of a listed version of the run's pair and k
+abbrev pub IsBenchOf : Shelves → Pair → ℕ → Stamped → Type 0
+IsBenchOf list pair k bench = Shows list bench × (bench.value.pair ≡ pair) × (bench.value.k ≡ k)
+
+-- known classes of the pair, for as many frames or fewer
+abbrev pub IsKnownFor : Pair → ℕ → Refined → Type 0
+IsKnownFor pair k n = (n.pair ≡ pair) × (n.k ≤ k)
+
+-- what proofs of the pair leave to others, for this very number of frames
+abbrev pub IsMemoryFor : Pair → ℕ → Extent → Type 0
+IsMemoryFor pair k m = (m.pair ≡ pair) × (m.k ≡ k)
+
+-- what comes of an offered pair: a verdict under the offer's version, or a vector of the run's netlists and k
+abbrev pub IsFoundFor : Pair → ℕ → Owed → Proof → Type 0
+IsFoundFor pair k offer (Holds w) = IsAbout w offer.pair × (w.version ≡ offer.stamp.value)
+IsFoundFor pair k offer (Splits x) = IsOf pair k x

@@ -1,0 +1,162 @@
+//! What a worker proves pairs with: the frames of a published version. They are made anew where the worker is given a pair of
+//! another version; that they fit an offer is seen from two indices.
+ghost use Rattle.std.specs.Prelude.{◌≡◌, IfErr, IfOk, IfSome, IsTrue, OnOk, is_some, true};
+ghost use Rattle.and_graph.specs.Askers.{IsHalted, IsTaken};
+ghost use Rattle.circ_model.specs.Meaning.{places_of};
+ghost use Rattle.class_partition.specs.Classes.{IsNeeded, least_of};
+ghost use Rattle.boxcar.specs.Table.{Shows};
+ghost use Rattle.verdict_stamp.specs.Proofs.{IsSettled};
+ghost use Rattle.prover_table.specs.Tables.{IsBenchOf, IsKnownFor, IsMemoryFor};
+
+use crate::lent::Lent;
+use class_partition::Needed;
+use refine_board::Run;
+use std::alloc::{AllocError, Global};
+use std::marker::Model;
+use verdict_stamp::{Asker, Halt, Known, Proof, Prover, ProverMemory, Stamp, Version, Versions};
+
+/// The frames of a version, and its stamp.
+#[derive(Drop)]
+pub(crate) struct Bench<'v, 'p> {
+    stamp: Stamp<'p>,
+    prover: Prover<'v, 'p>,
+}
+
+impl<'v, 'p> Model for Bench<'v, 'p> {
+    ghost use Rattle.std.specs.Prelude.{◌≡◌};
+    ghost use Rattle.verdict_stamp.specs.Published.{Stamped};
+
+    ghost Value = { Stamped };
+
+    ghost view = { λ b. b.stamp };
+
+    ghost invariant = { λ b. b.stamp.value ≡ b.prover };
+}
+
+// The frames of a version, which go on with what was proved before where something was.
+fn prover_of<'v, 'p>(
+    alloc: Global,
+    memory: Option<ProverMemory<'p>>,
+    version: &'v Version<'p>,
+) -> Result<Prover<'v, 'p>, AllocError>
+    requires memory { IfSome memory (IsMemoryFor version.now.pair version.now.k) }
+    ensures { IfOk result (λ p. p ≡ version.now) }
+{
+    match memory {
+        Some(memory) => Prover::over(alloc, memory, version),
+        None => Prover::new(alloc, version),
+    }
+}
+
+impl<'v, 'p> Bench<'v, 'p> {
+    /// The bench of a version, which goes on with what was proved before where something was.
+    pub(crate) fn new(
+        alloc: Global,
+        memory: Option<ProverMemory<'p>>,
+        versions: &'v Versions<'p>,
+        stamp: &Stamp<'p>,
+    ) -> Result<Bench<'v, 'p>, AllocError>
+        requires listed { Shows versions.now stamp.now }
+        requires memory { IfSome memory (IsMemoryFor stamp.now.value.pair stamp.now.value.k) }
+        ensures listed { IfOk result (λ b. Shows versions.now b) }
+        ensures version { IfOk result (λ b. b.value ≡ stamp.now.value) }
+    {
+        let prover = prover_of(alloc, memory, versions.at(stamp))?;
+        Ok(Bench {
+            stamp: stamp.copy(),
+            prover,
+        })
+    }
+
+    /// The bench of a version of the same pair and k: this one, where it is of this version, or else one that goes on with what
+    /// was proved here.
+    pub(crate) fn turned_to(
+        self,
+        alloc: Global,
+        versions: &'v Versions<'p>,
+        stamp: &Stamp<'p>,
+    ) -> Result<Bench<'v, 'p>, AllocError>
+        requires own { Shows versions.now self }
+        requires listed { Shows versions.now stamp.now }
+        requires pair { self.value.pair ≡ stamp.now.value.pair }
+        requires k { self.value.k ≡ stamp.now.value.k }
+        ensures listed { IfOk result (λ b. Shows versions.now b) }
+        ensures version { IfOk result (λ b. b.value ≡ stamp.now.value) }
+    {
+        if versions.same(&self.stamp, stamp) {
+            return Ok(self);
+        }
+        let Bench { prover, .. } = self;
+        let prover = Prover::over(alloc, prover.into_memory(), versions.at(stamp))?;
+        Ok(Bench {
+            stamp: stamp.copy(),
+            prover,
+        })
+    }
+
+    /// What was proved here, for the bench of another version.
+    pub(crate) fn into_memory(self) -> ProverMemory<'p>
+        ensures { IsMemoryFor self.entry.value.pair self.entry.value.k result }
+    {
+        let Bench { prover, .. } = self;
+        prover.into_memory()
+    }
+
+    /// Settles a pair of its version: unasked, where the classes of an earlier k are known and pair it.
+    pub(crate) fn settle(
+        &mut self,
+        alloc: Global,
+        asker: &mut Asker,
+        pair: Needed,
+        known: Option<&Known<'_>>,
+    ) -> Result<Proof<'v, 'p>, Halt>
+        requires needed { IsNeeded (places_of self.old.value.pair) self.old.value.classes pair.member }
+        requires rep { pair.rep ≡ least_of self.old.value.classes pair.member }
+        requires earlier { IfSome known (λ n. IsKnownFor self.old.value.pair self.old.value.k n.now) }
+        ensures kept { self.new ≡ self.old }
+        ensures settled { IfOk result (IsSettled self.old.value pair.member) }
+        ensures most { asker.new.most ≡ asker.old.most }
+        ensures halt { IfErr result (IsHalted asker.old asker.new) }
+    {
+        match known {
+            Some(known) => self.prover.settle_known(alloc, asker, pair, known),
+            None => self.prover.settle(alloc, asker, pair),
+        }
+    }
+
+    /// Whether the question that the asker has put aside rests on the pair of a member.
+    pub(crate) fn rests_on(&self, asker: &Asker, member: u32) -> bool
+        ensures { IsTrue result → is_some asker.now.aside ≡ true }
+    {
+        self.prover.rests_on(asker, member)
+    }
+
+    /// Takes in the answer to the question that the asker had put aside.
+    pub(crate) fn take_answer(&mut self, alloc: Global, asker: &mut Asker) -> Result<(), AllocError>
+        ensures kept { self.new ≡ self.old }
+        ensures taken { OnOk result (IsTaken asker.old asker.new) }
+    {
+        self.prover.take_answer(alloc, asker)
+    }
+}
+
+/// The bench of a version: the one that there is, turned to it, or a new one, which takes up what was proved before.
+pub(crate) fn bench_for<'v, 'p, L: Run>(
+    alloc: Global,
+    lent: &Lent<'v, 'p, L>,
+    old: Option<Bench<'v, 'p>>,
+    memory: &mut Option<ProverMemory<'p>>,
+    stamp: &Stamp<'p>,
+) -> Result<Bench<'v, 'p>, AllocError>
+    requires old { IfSome old (IsBenchOf L.list L.pair L.k) }
+    requires memory { IfSome memory.old (IsMemoryFor L.pair L.k) }
+    requires listed { IsBenchOf L.list L.pair L.k stamp.now }
+    ensures memory { IfSome memory.new (IsMemoryFor L.pair L.k) }
+    ensures listed { IfOk result (λ b. Shows L.list b) }
+    ensures version { IfOk result (λ b. b.value ≡ stamp.now.value) }
+{
+    match old {
+        Some(bench) => bench.turned_to(alloc, lent.versions, stamp),
+        None => Bench::new(alloc, memory.take(), lent.versions, stamp),
+    }
+}

@@ -1,0 +1,191 @@
+//! What the workers of a run take turns at. One of them at a time sweeps the pairs, on a graph that all share: what one finds equal
+//! serves all. A question over a large cone is put aside, and its worker solves it away from the table, while others go on. Where it
+//! rests on a pair beneath it that another worker is still settling, it is asked again when that is settled.
+ghost use Rattle.std.specs.Prelude.{◌≡◌, IfErr, IfOk, IfSome, OnOk, is_some, true};
+ghost use Rattle.and_graph.specs.Askers.{IsHalted, IsTaken};
+ghost use Rattle.and_graph.specs.declared.halt.Halt.TheVariants.{Posed};
+ghost use Rattle.prover_table.specs.Tables.{IsFoundFor, IsMemoryFor};
+
+use crate::bench::{Bench, bench_for};
+use crate::lent::Lent;
+use refine_board::{Offer, Run};
+use std::alloc::{AllocError, Global};
+use std::marker::{Model, PhantomData};
+use verdict_stamp::{Asker, Halt, Proof, ProverMemory};
+
+// So many workers a run has at most.
+const SEATS: usize = 64;
+
+/// The bench, where a pair was offered; until then what was proved before the run, where something was; and by worker the member of
+/// the offer that it is settling, from when a question about that is put aside until it is settled. Contracts see whether there is a
+/// bench.
+#[derive(Drop)]
+pub struct Table<'v, 'p, L: Run> {
+    bench: Option<Bench<'v, 'p>>,
+    memory: Option<ProverMemory<'p>>,
+    away: [Option<u32>; SEATS],
+    of: PhantomData<L>,
+}
+
+impl<'v, 'p, L: Run> Model for Table<'v, 'p, L> {
+    ghost use Rattle.std.specs.Prelude.{Bool, IfSome, is_some};
+    ghost use Rattle.prover_table.specs.Tables.{IsBenchOf, IsMemoryFor};
+
+    ghost Value = { Bool };
+
+    ghost view = { λ t. is_some t.bench };
+
+    ghost invariant = { λ t. IfSome t.bench (IsBenchOf L.list L.pair L.k) × IfSome t.memory (IsMemoryFor L.pair L.k) };
+}
+
+impl<'v, 'p, L: Run> Table<'v, 'p, L> {
+    /// A table without a bench, from which nobody is away, with what was proved before where something was.
+    pub fn new(memory: Option<ProverMemory<'p>>) -> Table<'v, 'p, L>
+        requires { IfSome memory (IsMemoryFor L.pair L.k) }
+    {
+        Table {
+            bench: None,
+            memory,
+            away: [None; SEATS],
+            of: PhantomData,
+        }
+    }
+
+    /// What was proved at it, and before, where something was.
+    pub fn into_memory(self) -> Option<ProverMemory<'p>>
+        ensures { IfSome result (IsMemoryFor L.pair L.k) }
+    {
+        let Table { bench, memory, .. } = self;
+        match bench {
+            Some(bench) => Some(bench.into_memory()),
+            None => memory,
+        }
+    }
+
+    // What comes of an offered pair at the bench, which is turned to the offer's version.
+    fn find(
+        &mut self,
+        alloc: Global,
+        lent: &Lent<'v, 'p, L>,
+        asker: &mut Asker,
+        offer: &Offer<'p, L>,
+    ) -> Result<Proof<'v, 'p>, Halt>
+        ensures found { IfOk result (IsFoundFor L.pair L.k offer.now) }
+        ensures most { asker.new.most ≡ asker.old.most }
+        ensures halt { IfErr result (IsHalted asker.old asker.new) }
+        ensures bench { IfErr result (λ h. h ≡ Posed → self.new ≡ true) }
+    {
+        let bench = self.bench.take();
+        let mut at = bench_for(alloc, lent, bench, &mut self.memory, offer.stamp())?;
+        let found = find_at(alloc, lent, &mut at, asker, offer);
+        self.bench = Some(at);
+        found
+    }
+
+    /// The same. A question over a large cone is put aside in the worker's asker, and that the pair isn't settled is noted.
+    pub fn settle(
+        &mut self,
+        alloc: Global,
+        lent: &Lent<'v, 'p, L>,
+        asker: &mut Asker,
+        offer: &Offer<'p, L>,
+    ) -> Result<Proof<'v, 'p>, Halt>
+        ensures found { IfOk result (IsFoundFor L.pair L.k offer.now) }
+        ensures most { asker.new.most ≡ asker.old.most }
+        ensures halt { IfErr result (IsHalted asker.old asker.new) }
+        ensures bench { IfErr result (λ h. h ≡ Posed → self.new ≡ true) }
+    {
+        let found = self.find(alloc, lent, asker, offer);
+        self.note(offer.party(), unsettled(offer, &found));
+        found
+    }
+
+    // Notes the member of the offer that a worker is settling, or that there is none.
+    fn note(&mut self, party: u32, member: Option<u32>)
+        ensures { self.new ≡ self.old }
+    {
+        if (party as usize) < SEATS {
+            self.away[party as usize] = member;
+        }
+    }
+
+    /// Takes in the answer to the question that the asker had put aside, where there is a bench, as there is once one is put aside.
+    pub fn take_answer(&mut self, alloc: Global, asker: &mut Asker) -> Result<(), AllocError>
+        ensures kept { self.new ≡ self.old }
+        ensures taken { OnOk result (self.old ≡ true → IsTaken asker.old asker.new) }
+    {
+        match &mut self.bench {
+            Some(bench) => bench.take_answer(alloc, asker),
+            None => Ok(()),
+        }
+    }
+
+    /// A worker gives its offer up.
+    pub fn leaves(&mut self, party: u32)
+        ensures { self.new ≡ self.old }
+    {
+        self.note(party, None);
+    }
+
+    // The member that is noted of a worker.
+    fn member_of(&self, party: u32) -> Option<u32> {
+        if (party as usize) < SEATS {
+            self.away[party as usize]
+        } else {
+            None
+        }
+    }
+
+    /// Whether a worker is still settling the offer with this member.
+    pub fn is_away(&self, party: u32, member: u32) -> bool {
+        self.member_of(party) == Some(member)
+    }
+
+    /// A worker that is settling a lower pair, and that pair's member, where the question rests on it that this worker's asker has put
+    /// aside: it is better to wait until that is settled.
+    pub fn before(&self, asker: &Asker, party: u32) -> Option<(u32, u32)>
+        ensures { IfSome result (λ _. is_some asker.now.aside ≡ true) }
+    {
+        let Some(bench) = &self.bench else {
+            return None;
+        };
+        let Some(own) = self.member_of(party) else {
+            return None;
+        };
+        for other in 0..SEATS {
+            if let Some(member) = self.away[other] {
+                if member < own && bench.rests_on(asker, member) {
+                    return Some((other as u32, member));
+                }
+            }
+        }
+        None
+    }
+}
+
+// The member of an offer of which a question is put aside.
+fn unsettled<L: Run>(offer: &Offer<'_, L>, found: &Result<Proof<'_, '_>, Halt>) -> Option<u32> {
+    match found {
+        Err(Halt::Posed) => Some(offer.pair().member),
+        _ => None,
+    }
+}
+
+// What comes of an offered pair at a bench of the offer's version.
+#[tactic(auto, using(crate::proofs::Finds::found_by))]
+fn find_at<'v, 'p, L: Run>(
+    alloc: Global,
+    lent: &Lent<'v, 'p, L>,
+    bench: &mut Bench<'v, 'p>,
+    asker: &mut Asker,
+    offer: &Offer<'p, L>,
+) -> Result<Proof<'v, 'p>, Halt>
+    requires version { bench.old.value ≡ offer.now.stamp.value }
+    ensures bench { bench.new ≡ bench.old }
+    ensures found { IfOk result (IsFoundFor L.pair L.k offer.now) }
+    ensures most { asker.new.most ≡ asker.old.most }
+    ensures halt { IfErr result (IsHalted asker.old asker.new) }
+{
+    let _owed = offer.stamp();
+    bench.settle(alloc, asker, offer.pair(), lent.known)
+}

@@ -1,0 +1,42 @@
+//! A pair that was found apart.
+ghost use Rattle.std.specs.Prelude.{◌≡◌};
+ghost use Rattle.refine_board.specs.Running.{IsOf};
+
+use refine_board::{Offer, Run};
+use std::marker::Model;
+use verdict_stamp::Vector;
+
+/// An offer, and a vector that separates its pair.
+#[derive(Drop)]
+pub struct Found<'p, L: Run> {
+    pub(crate) offer: Offer<'p, L>,
+    pub(crate) vector: Vector<'p>,
+}
+
+impl<'p, L: Run> Model for Found<'p, L> {
+    ghost use Rattle.refine_board.specs.Running.{Owed, IsOf};
+
+    ghost Value = { Owed };
+
+    ghost view = { λ f. f.offer };
+
+    ghost invariant = { λ f. IsOf L.pair L.k f.vector };
+}
+
+impl<'p, L: Run> Found<'p, L> {
+    /// An offered pair, and a vector that separates it.
+    pub fn new(offer: Offer<'p, L>, vector: Vector<'p>) -> Found<'p, L>
+        requires { IsOf L.pair L.k vector }
+        ensures { result ≡ offer }
+    {
+        Found { offer, vector }
+    }
+
+    /// The offer, without the vector.
+    pub fn into_offer(self) -> Offer<'p, L>
+        ensures { result ≡ self.entry }
+    {
+        let Found { offer, .. } = self;
+        offer
+    }
+}
