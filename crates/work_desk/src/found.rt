@@ -27,7 +27,7 @@ impl<'p, L: Run> Found<'p, L> {
     /// An offered pair, and a vector that separates it.
     pub fn new(offer: Offer<'p, L>, vector: Vector<'p>) -> Found<'p, L>
         requires { IsOf L.pair L.k vector }
-        ensures { result ≡ offer }
+        ensures { result ≡ offer.entry }
     {
         Found { offer, vector }
     }
