@@ -8,6 +8,7 @@ ghost use Rattle.induction_base.specs.Least.{IsLeastOrNone, IsShown};
 ghost use Rattle.command_line.specs.Asked.{check_asked, IsCheckWithin};
 ghost use Rattle.pair_pool.specs.Unpaired.{AreLeftOut};
 ghost use Rattle.prover_table.specs.Tables.{IsMemoryFor};
+ghost use Rattle.split_workers.specs.Refined.{IsRefined};
 ghost use Rattle.sec_cli.specs.Answers.{AreClassLines, IsCertOf, IsCheckAnswer, IsJournalOf, IsRefinedText, IsShownAs, is_refined, stats_lines};
 ghost use Rattle.sec_cli.specs.Climbs.{IsReached};
 
@@ -283,6 +284,34 @@ impl<'p> Reached<'p> {
     }
 }
 
+// The verdict after a refinement, and the version that it ended with.
+fn concluded<'p>(
+    alloc: Global,
+    product: &'p Product,
+    c: &Check,
+    refined: Refined<'p>,
+    agreed: u32,
+) -> Result<(Answer, Version<'p>), AllocError>
+    requires sound { IsSoundPair product.now }
+    requires refined { IsRefined product.now c.now.k c.now.workers refined.version refined.journal.entries }
+    requires agree { AgreeBelow product.now agreed }
+    requires within { IsCheckWithin (check_asked c.now) }
+    ensures answer { IfOk result (λ r. IsCheckAnswer product.entry.now (check_asked c.now) r.0) }
+    ensures status { IfOk result (λ r. r.0.status ≤ 2) }
+    ensures journal { IfOk result (λ r. is_some r.0.journal ≡ is_refined r.0.status) }
+    ensures pair { IfOk result (λ r. r.1.pair ≡ product.entry.now) }
+    ensures k { IfOk result (λ r. r.1.k ≡ c.now.k) }
+    ensures greatest { IfOk result (λ r. AreOfGreatest product.entry.now c.now.k r.1.classes) }
+{
+    let Refined {
+        version,
+        journal,
+        ..
+    } = refined;
+    let answer = answer_by(alloc, product, c, version.classes(), journal, agreed)?;
+    Ok((answer, version))
+}
+
 /// The verdict of a pair of which this is known, as it is printed, and the version whose classes are those of the greatest
 /// correspondence. What was proved goes into what is known.
 pub(crate) fn check_beyond<'p, R: Threads + Wait + Sync, G: Gate>(
@@ -304,14 +333,10 @@ pub(crate) fn check_beyond<'p, R: Threads + Wait + Sync, G: Gate>(
     ensures memory { IfSome reached.new.earlier.memory (IsMemoryFor product.entry.now c.now.k) }
 {
     let _sound = product.cells();
-    let Reached { agreed, earlier } = reached;
-    let Refined {
-        version,
-        journal,
-        ..
-    } = refine_known(rt, alloc, product, c.k, c.workers, gate, earlier)?;
-    let answer = answer_by(alloc, product, c, version.classes(), journal, *agreed)?;
-    Ok((answer, version))
+    let agreed = reached.agreed;
+    let earlier = &mut reached.earlier;
+    let refined = refine_known(rt, alloc, product, c.k, c.workers, gate, earlier)?;
+    concluded(alloc, product, c, refined, agreed)
 }
 
 // The verdict of a pair whose outputs agree in the first frame of every run.

@@ -114,13 +114,14 @@ fn reach<'p>(
     ensures known { OnOk result (IfSome reached.new.earlier.known (λ n. (n.pair ≡ version.entry.pair) × (n.k ≡ version.entry.k))) }
     ensures memory { OnOk result (IfSome reached.new.earlier.memory (IsMemoryFor version.entry.pair (version.entry.k + 1))) }
 {
-    let Earlier { known, memory } = &mut reached.earlier;
-    if let Some(left) = memory.take() {
+    let k = version.k();
+    let known = known_after(alloc, version)?;
+    reached.agreed = k;
+    reached.earlier.known = Some(known);
+    if let Some(left) = reached.earlier.memory.take() {
         let deeper = left.deeper(alloc)?;
-        *memory = Some(deeper);
+        reached.earlier.memory = Some(deeper);
     }
-    reached.agreed = version.k();
-    *known = Some(known_after(alloc, version)?);
     Ok(())
 }
 
@@ -131,19 +132,11 @@ fn ended(answer: Answer, before: Option<Journal>) -> Answer
     ensures file { result.file.items ≡ answer.file.items }
     ensures journal { MatchBool (answer.status == 1) (result.journal ≡ before) (result.journal ≡ answer.journal) }
 {
-    let Answer {
-        status,
-        text,
-        file,
-        journal,
-    } = answer;
-    let journal = if status == 1 { before } else { journal };
-    Answer {
-        status,
-        text,
-        file,
-        journal,
+    let mut answer = answer;
+    if answer.status == 1 {
+        answer.journal = before;
     }
+    answer
 }
 
 // The answer where outputs differ in the first frame: no depth is tried but the first, and nothing is refined.
@@ -162,6 +155,33 @@ fn differs_at_once(
     let check = check_of(c, 1);
     let answer = different(alloc, product, &check, diff)?;
     Ok(ended(answer, None))
+}
+
+// The check with induction over so many frames, and where it is undecided what is known before the next.
+fn try_depth<'p, R: Threads + Wait + Sync, G: Gate>(
+    rt: &R,
+    alloc: Global,
+    product: &'p Product,
+    c: &Climb,
+    k: u32,
+    reached: &mut Reached<'p>,
+    gate: &G,
+) -> Result<Answer, AllocError>
+    requires within { IsClimbWithin (climb_asked c.now) }
+    requires some { 0 < k }
+    requires few { k < c.now.most }
+    requires reached { IsReached product.now k reached.old }
+    ensures answer { IfOk result (IsCheckAnswer product.entry.now (check_of_climb (climb_asked c.now) k)) }
+    ensures status { IfOk result (λ a. a.status ≤ 2) }
+    ensures journal { IfOk result (λ a. is_some a.journal ≡ is_refined a.status) }
+    ensures reached { IfOk result (λ a. a.status ≡ 2 → IsReached product.entry.now (k + 1) reached.new) }
+{
+    let (answer, version) = check_at(rt, alloc, product, c, k, reached, gate)?;
+    if answer.status != 2 {
+        return Ok(answer);
+    }
+    reach(alloc, version, reached)?;
+    Ok(answer)
 }
 
 // The climb from what is known before the first check. What the checks before it found serves each check: it asks for no pair of the
@@ -183,13 +203,11 @@ fn climb_from<'p, R: Threads + Wait + Sync, G: Gate>(
 {
     let mut before = None;
     for k in 1..c.most {
-        let (answer, version) = check_at(rt, alloc, product, c, k, reached, gate)?;
+        let answer = try_depth(rt, alloc, product, c, k, reached, gate)?;
         if answer.status != 2 {
             return Ok(ended(answer, before));
         }
-        let Answer { journal, .. } = answer;
-        before = journal;
-        reach(alloc, version, reached)?;
+        before = answer.journal;
     }
     let (answer, _) = check_at(rt, alloc, product, c, c.most, reached, gate)?;
     Ok(ended(answer, before))

@@ -2,7 +2,7 @@ use Rattle.std.proofs.Common.{◌≡◌, ◌<◌, ℕ, subst, refl, arith}
 use Rattle.command_line.specs.Asked.{ClimbAsked, climb_asked}
 use Rattle.circ_model.specs.Meaning.{Pair}
 use Rattle.sec_cli.specs.Climbs.{IsReached}
-use Rattle.sec_cli.proofs.Depths.{IsSoFar, goes_on, ends, reaches}
+use Rattle.sec_cli.proofs.Depths.{IsSoFar, goes_on, ends}
 use Rattle.sec_cli.proofs.climbing.climb_from.Goals as goal
 
 pub loop-k-preserved : goal.loop-k-preserved
@@ -11,14 +11,13 @@ loop-k-preserved g c =
     let asked : ClimbAsked = climb_asked c.args.c.now in
     let lt : c.loop-k.k < asked.most = omega (arith, c.loop-k-test.true) in
     let two : c.in_ok-answer.answer.status ≡ 2 = omega (arith, c.if-answer-ne2.false) in
-    let found = c.in_ok-answer.ensures in
-    let after = c.in_ok-reach.ensures in (
+    let found = c.in_ok-answer.ensures in (
       goes_on pair asked c.loop-k.k c.loop-k.before c.in_ok-answer.answer c.loop-k.invariant.0 lt found.answer two,
-      reaches pair asked c.loop-k.k c.in_ok-answer.answer c.in_ok-answer.version c.reach.new.reached found.answer two found.pair found.k after.agreed after.known after.memory,
+      found.reached two,
     )
 
-pub check_at-requires-2-clause-reached : goal.check_at-requires-2-clause-reached
-check_at-requires-2-clause-reached g c = λ lives fits.
+pub check_at-requires-clause-reached : goal.check_at-requires-clause-reached
+check_at-requires-clause-reached g c = λ lives fits.
     let pair : Pair = c.args.product.now in
     let asked : ClimbAsked = climb_asked c.args.c.now in
     let last : c.loop-k.k ≡ asked.most = omega (arith, c.loop-k-test.false, c.loop-k.invariant.0.few) in
