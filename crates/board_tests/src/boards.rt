@@ -101,47 +101,43 @@ fn answer_turn<'v, 'p, L: Run>(
     Ok(())
 }
 
-// Two workers: both ask, the first answers and then the second; the first asks, then the second, and the first answers; the
-// second asks.
-fn two_turns<'v, 'p, L: Run>(
+// A turn of two workers: one of them asks, or the work that was taken first is answered.
+#[derive(Clone, Copy)]
+enum Turn {
+    First,
+    Second,
+    Answer,
+}
+
+fn take_turn<'v, 'p, L: Run>(
     rt: &impl Wait,
     alloc: Global,
     board: &mut Board<'v, 'p, L>,
     works: &mut Vec<Work<'v, 'p, L>>,
+    turn: Turn,
 ) -> Result<(), AllocError>
     requires workers { 2 ≤ L.workers }
 {
-    ask_turn(rt, alloc, board, works, 0)?;
-    ask_turn(rt, alloc, board, works, 1)?;
-    answer_turn(alloc, board, works, 0)?;
-    answer_turn(alloc, board, works, 0)?;
-    ask_turn(rt, alloc, board, works, 0)?;
-    ask_turn(rt, alloc, board, works, 1)?;
-    answer_turn(alloc, board, works, 0)?;
-    ask_turn(rt, alloc, board, works, 1)
+    match turn {
+        Turn::First => ask_turn(rt, alloc, board, works, 0),
+        Turn::Second => ask_turn(rt, alloc, board, works, 1),
+        Turn::Answer => answer_turn(alloc, board, works, 0),
+    }
 }
 
-fn two_workers<'v, 'p, L: Run>(
+fn take_turns<'v, 'p, L: Run>(
     rt: &impl Wait,
     alloc: Global,
-    blank: Blank,
-    versions: &'v Versions<'p>,
-    first: Version<'p>,
-    workers: u32,
-) -> Result<(Version<'p>, Journal), AllocError>
-    requires name { (blank.name ≡ L.name) × (blank.parts ≡ L.parts) }
-    requires parts { 2 ^ 62 ≤ L.parts }
-    requires run { (first.pair ≡ L.pair) × (first.k ≡ L.k) }
-    requires workers { (workers ≡ L.workers) × (2 ≤ L.workers) }
-    requires opening { L.opening ≡ opened L.pair L.workers first.classes first.number }
-    requires list { L.list ≡ versions.now }
+    board: &mut Board<'v, 'p, L>,
+    works: &mut Vec<Work<'v, 'p, L>>,
+    turns: &[Turn],
+) -> Result<(), AllocError>
+    requires workers { 2 ≤ L.workers }
 {
-    let mut works = Vec::new(alloc);
-    let mut board = Board::<'v, 'p, L>::open(alloc, blank, versions, first, workers)?;
-    let played = two_turns(rt, alloc, &mut board, &mut works);
-    let end = board.close();
-    played?;
-    Ok(end)
+    for turn in turns {
+        take_turn(rt, alloc, board, works, *turn)?;
+    }
+    Ok(())
 }
 
 // The index of a party's work, or 9 for none.
@@ -154,8 +150,9 @@ fn index_of<L: Run>(works: &Vec<Work<'_, '_, L>>, party: u32) -> usize {
     9
 }
 
-// Both ask, and answer; the first asks again. The indices of the three offers.
-fn three_indices<'v, 'p, L: Run>(
+// Two workers: both ask, the first answers and then the second; the first asks, then the second, and the first answers; the
+// second asks. The indices of the first three offers.
+fn two_turns<'v, 'p, L: Run>(
     rt: &impl Wait,
     alloc: Global,
     board: &mut Board<'v, 'p, L>,
@@ -163,24 +160,31 @@ fn three_indices<'v, 'p, L: Run>(
 ) -> Result<[usize; 3], AllocError>
     requires workers { 2 ≤ L.workers }
 {
-    ask_turn(rt, alloc, board, works, 0)?;
-    ask_turn(rt, alloc, board, works, 1)?;
-    let first = index_of(works, 0);
-    let second = index_of(works, 1);
-    answer_turn(alloc, board, works, 0)?;
-    answer_turn(alloc, board, works, 0)?;
-    ask_turn(rt, alloc, board, works, 0)?;
-    Ok([first, second, index_of(works, 0)])
+    let (first, second, answer) = (Turn::First, Turn::Second, Turn::Answer);
+    take_turns(rt, alloc, board, works, &[first, second])?;
+    let both = [index_of(works, 0), index_of(works, 1)];
+    take_turns(rt, alloc, board, works, &[answer, answer, first])?;
+    let next = index_of(works, 0);
+    take_turns(rt, alloc, board, works, &[second, answer, second])?;
+    Ok([both[0], both[1], next])
 }
 
-fn indices_of_offers<'v, 'p, L: Run>(
+// What two workers leave: the version, the journal, and the indices of the first three offers.
+#[derive(Drop)]
+struct BoardEnd<'p> {
+    version: Version<'p>,
+    journal: Journal,
+    indices: [usize; 3],
+}
+
+fn two_workers<'v, 'p, L: Run>(
     rt: &impl Wait,
     alloc: Global,
     blank: Blank,
     versions: &'v Versions<'p>,
     first: Version<'p>,
     workers: u32,
-) -> Result<[usize; 3], AllocError>
+) -> Result<BoardEnd<'p>, AllocError>
     requires name { (blank.name ≡ L.name) × (blank.parts ≡ L.parts) }
     requires parts { 2 ^ 62 ≤ L.parts }
     requires run { (first.pair ≡ L.pair) × (first.k ≡ L.k) }
@@ -190,23 +194,14 @@ fn indices_of_offers<'v, 'p, L: Run>(
 {
     let mut works = Vec::new(alloc);
     let mut board = Board::<'v, 'p, L>::open(alloc, blank, versions, first, workers)?;
-    three_indices(rt, alloc, &mut board, &mut works)
-}
-
-fn indices(rt: &impl Wait, alloc: Global, product: &Product) -> Result<[usize; 3], AllocError> {
-    let first = Version::first(alloc, product, 1)?;
-    let versions = Versions::new(alloc)?;
-    indices_of_offers::<Brand>(rt, alloc, Blank::new(1 << 62), &versions, first, 2)
-}
-
-#[test]
-fn offers_have_one_index_until_a_split(rt: HostRuntime) -> Result<(), Fail> {
-    let alloc = rt.alloc();
-    match pair_of(alloc, TOGGLE, TOGGLE) {
-        Ok(product) => assert_eq!(rt; indices(&rt, alloc, &product)?, [0, 0, 1]),
-        Err(_) => assert!(rt; false),
-    }
-    Ok(())
+    let played = two_turns(rt, alloc, &mut board, &mut works);
+    drop(works);
+    let (version, journal) = board.close();
+    Ok(BoardEnd {
+        version,
+        journal,
+        indices: played?,
+    })
 }
 
 fn word_of(step: &Step) -> &'static str {
@@ -236,7 +231,7 @@ fn numbers_of(step: &Step) -> [u32; 2] {
 }
 
 // Whether entry i is this one.
-pub(crate) fn is_entry(
+fn is_entry(
     journal: &Journal,
     i: u64,
     worker: u32,
@@ -254,15 +249,48 @@ pub(crate) fn is_entry(
         && numbers_of(&entry.step) == numbers
 }
 
+// Whether the journal begins with these entries: the worker, the number of its call, the step, and its numbers.
+pub(crate) fn begins_so(journal: &Journal, entries: &[(u32, u64, &str, [u32; 2])]) -> bool {
+    let mut i: u64 = 0;
+    for entry in entries {
+        if !is_entry(journal, i, entry.0, entry.1, entry.2, entry.3) {
+            return false;
+        }
+        i = i.saturating_add(1);
+    }
+    true
+}
+
 // What two workers make of a pair, from its first version.
 fn worked<'p>(
     rt: &impl Wait,
     alloc: Global,
     product: &'p Product,
-) -> Result<(Version<'p>, Journal), AllocError> {
+) -> Result<BoardEnd<'p>, AllocError> {
     let first = Version::first(alloc, product, 1)?;
     let versions = Versions::new(alloc)?;
     two_workers::<Brand>(rt, alloc, Blank::new(1 << 62), &versions, first, 2)
+}
+
+#[test]
+fn offers_have_one_index_until_a_split(rt: HostRuntime) -> Result<(), Fail> {
+    let alloc = rt.alloc();
+    match pair_of(alloc, TOGGLE, TOGGLE) {
+        Ok(product) => assert_eq!(rt; worked(&rt, alloc, &product)?.indices, [0, 0, 1]),
+        Err(_) => assert!(rt; false),
+    }
+    Ok(())
+}
+
+// Whether the replay of the journal has the board's last classes.
+fn is_as_replayed(
+    alloc: Global,
+    product: &Product,
+    worked: &BoardEnd<'_>,
+) -> Result<bool, AllocError> {
+    let first = Version::first(alloc, product, 1)?;
+    let classes = replay(alloc, &first, 2, &worked.journal)?;
+    Ok(same_classes(&classes, worked.version.classes()))
 }
 
 // Whether the workers split and count the pair of toggles.
@@ -271,21 +299,21 @@ fn toggles_are_counted(
     alloc: Global,
     product: &Product,
 ) -> Result<bool, AllocError> {
-    let (version, journal) = worked(rt, alloc, product)?;
-    let replayed = replay(alloc, &Version::first(alloc, product, 1)?, 2, &journal)?;
-    Ok(
-        version.classes().count() == 2
-            && same_classes(&replayed, version.classes())
-            && journal.len() == 8
-            && is_entry(&journal, 0, 0, 0, "offered", [0, 1])
-            && is_entry(&journal, 1, 1, 0, "offered", [0, 2])
-            && is_entry(&journal, 2, 0, 1, "split", [0, 1])
-            && is_entry(&journal, 3, 1, 1, "already", [0, 0])
-            && is_entry(&journal, 4, 0, 2, "offered", [1, 2])
-            && is_entry(&journal, 5, 1, 2, "idle", [0, 0])
-            && is_entry(&journal, 6, 0, 3, "counted", [1, 2])
-            && is_entry(&journal, 7, 1, 3, "done", [0, 0]),
-    )
+    let end = worked(rt, alloc, product)?;
+    let entries = [
+        (0, 0, "offered", [0, 1]),
+        (1, 0, "offered", [0, 2]),
+        (0, 1, "split", [0, 1]),
+        (1, 1, "already", [0, 0]),
+        (0, 2, "offered", [1, 2]),
+        (1, 2, "idle", [0, 0]),
+        (0, 3, "counted", [1, 2]),
+        (1, 3, "done", [0, 0]),
+    ];
+    let so = end.version.classes().count() == 2
+        && end.journal.len() == 8
+        && begins_so(&end.journal, entries.as_slice());
+    Ok(is_as_replayed(alloc, product, &end)? && so)
 }
 
 #[test]
@@ -300,13 +328,17 @@ fn two_workers_split_and_count_a_pair_of_toggles(rt: HostRuntime) -> Result<(), 
 
 // Whether the second worker's proof is outdated, and its pair splits under the next version.
 fn proof_is_outdated(rt: &impl Wait, alloc: Global, product: &Product) -> Result<bool, AllocError> {
-    let (_, journal) = worked(rt, alloc, product)?;
+    let end = worked(rt, alloc, product)?;
+    let entries = [
+        (0, 0, "offered", [0, 1]),
+        (1, 0, "offered", [0, 2]),
+        (0, 1, "split", [0, 1]),
+        (1, 1, "stale", [0, 2]),
+        (0, 2, "offered", [0, 2]),
+    ];
+    let journal = &end.journal;
     Ok(
-        is_entry(&journal, 0, 0, 0, "offered", [0, 1])
-            && is_entry(&journal, 1, 1, 0, "offered", [0, 2])
-            && is_entry(&journal, 2, 0, 1, "split", [0, 1])
-            && is_entry(&journal, 3, 1, 1, "stale", [0, 2])
-            && is_entry(&journal, 4, 0, 2, "offered", [0, 2])
+        begins_so(journal, entries.as_slice())
             && journal.len() > 6
             && word_of(&journal.entry(6).step) == "split",
     )
@@ -324,8 +356,8 @@ fn an_outdated_proof_is_stale_and_its_pair_splits(rt: HostRuntime) -> Result<(),
 
 // Whether each worker is told at once that all is done.
 fn is_done_at_once(rt: &impl Wait, alloc: Global, product: &Product) -> Result<bool, AllocError> {
-    let (version, journal) = worked(rt, alloc, product)?;
-    Ok(version.classes().count() == 1 && is_entry(&journal, 0, 0, 0, "done", [0, 0]))
+    let end = worked(rt, alloc, product)?;
+    Ok(end.version.classes().count() == 1 && is_entry(&end.journal, 0, 0, 0, "done", [0, 0]))
 }
 
 #[test]
@@ -431,9 +463,9 @@ fn drawn_end<'v, 'p, L: Run>(
     let mut works = Vec::new(alloc);
     let mut board = Board::<'v, 'p, L>::open(alloc, blank, versions, first, workers)?;
     let played = drawn_turns(rt, alloc, &mut board, &mut works, seed);
+    drop(works);
     let (version, _) = board.close();
-    let same = played?;
-    Ok((version, same))
+    Ok((version, played?))
 }
 
 // Whether a drawn schedule of a pair ends at its greatest classes.

@@ -2,7 +2,7 @@
 ghost use Rattle.std.specs.Prelude.{◌≡◌, ◌≤◌, ◌+◌, ◌<◌, ◌^◌, IfOk};
 ghost use Rattle.refine_board.specs.Schedules.{opened};
 
-use crate::boards::{Work, answer, ask, is_entry};
+use crate::boards::{Work, answer, ask, begins_so};
 use crate::circuits::{STUCK, pair_of};
 use product_machine::Product;
 use refine_board::{Board, Journal, Run};
@@ -98,16 +98,16 @@ fn stays_counted(rt: &impl Wait, alloc: Global, product: &Product) -> Result<boo
         2,
         &known,
     )?;
-    Ok(
-        journal.len() == 7
-            && is_entry(&journal, 0, 0, 0, "offered", [0, 1])
-            && is_entry(&journal, 1, 1, 0, "offered", [0, 2])
-            && is_entry(&journal, 2, 1, 1, "counted", [0, 2])
-            && is_entry(&journal, 3, 0, 1, "split", [0, 1])
-            && is_entry(&journal, 4, 0, 2, "offered", [0, 3])
-            && is_entry(&journal, 5, 0, 3, "counted", [0, 3])
-            && is_entry(&journal, 6, 1, 2, "done", [0, 0]),
-    )
+    let entries = [
+        (0, 0, "offered", [0, 1]),
+        (1, 0, "offered", [0, 2]),
+        (1, 1, "counted", [0, 2]),
+        (0, 1, "split", [0, 1]),
+        (0, 2, "offered", [0, 3]),
+        (0, 3, "counted", [0, 3]),
+        (1, 2, "done", [0, 0]),
+    ];
+    Ok(journal.len() == 7 && begins_so(&journal, entries.as_slice()))
 }
 
 #[test]
