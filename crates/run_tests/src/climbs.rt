@@ -1,6 +1,7 @@
-use crate::runs::{DELAY, LOW, MASKED, RING, Row, TOGGLE, answers_so, case, shelf_of, words_of};
-use sec_base::{FreeGate, MemSink};
-use sec_cli::run;
+use crate::runs::{
+    DELAY, LOW, MASKED, RING, Row, Sinks, TOGGLE, answers_so, case, run_words, shelf_of,
+};
+use sec_base::FreeGate;
 use std::alloc::{AllocError, Global};
 use std::sync::Wait;
 use std::test::Fail;
@@ -61,17 +62,9 @@ fn has_journal<R: Threads + Wait + Sync>(
     alloc: Global,
     row: &Row,
 ) -> Result<bool, AllocError> {
-    let words = words_of(alloc, row.words)?;
-    let Some(mut shelf) = shelf_of(alloc, row, Vec::new(alloc)) else {
-        return Ok(false);
-    };
-    let (Ok(mut out), Ok(mut err)) = (
-        MemSink::with_room(alloc, 400, Vec::new(alloc)),
-        MemSink::with_room(alloc, 400, Vec::new(alloc)),
-    ) else {
-        return Ok(false);
-    };
-    let report = run(rt, alloc, &words, &mut shelf, &mut out, &mut err, &FreeGate);
+    let mut shelf = shelf_of(alloc, row, Vec::new(alloc))?;
+    let mut sinks = Sinks::new(alloc, 400, Vec::new(alloc), Vec::new(alloc))?;
+    let report = run_words(rt, alloc, row.words, &mut shelf, &mut sinks, &FreeGate)?;
     Ok(report.journal.is_some())
 }
 

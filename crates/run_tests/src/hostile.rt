@@ -1,10 +1,10 @@
 //! Runs over bytes that no editor writes and over devices that fail, deep questions, and files of many inputs.
 ghost use Rattle.std.specs.Prelude.{◌≤◌};
 
+use crate::runs::{Sinks, run_words};
 use aiger_codec::{write_binary_net, write_text_net};
 use demo_pair::make_demo;
 use sec_base::{FreeGate, MemShelf, MemSink};
-use sec_cli::run;
 use std::alloc::{AllocError, Global};
 use std::sync::Wait;
 use std::test::Fail;
@@ -24,15 +24,6 @@ struct Row {
     err: &'static str,
 }
 
-// How a run ended, what its streams took, and its shelf.
-#[derive(Drop)]
-struct Ended {
-    status: u8,
-    out: MemSink,
-    err: MemSink,
-    shelf: MemShelf,
-}
-
 const TOGGLE: &str = "aag 1 0 1 1 0\n2 3\n2\n";
 
 const LOW: &str = "aag 0 0 0 1 0\n0\n";
@@ -46,38 +37,6 @@ const LATCH_OF_PRODUCT: &str = "aag 4 2 1 1 1\n2\n4\n6 8\n6\n8 2 4\n";
 const TRACE: &str = "1\nb0\n0\n\n\n.\n";
 
 const DIFFERENT: &str = "different k=2 frame=1 output=0\n1\nb0\n0\n\n\n.\n";
-
-fn words_of(alloc: Global, text: &str) -> Result<Vec<String>, AllocError> {
-    let mut words = Vec::new(alloc);
-    for word in text.split(' ') {
-        words.push(format!(in alloc; "{word}")?)?;
-    }
-    Ok(words)
-}
-
-// Runs these words over a shelf, with so much room on the output.
-fn end_of<R: Threads + Wait + Sync>(
-    rt: &R,
-    alloc: Global,
-    words: &str,
-    mut shelf: MemShelf,
-    room: usize,
-) -> Result<Ended, AllocError> {
-    let words = words_of(alloc, words)?;
-    let (Ok(mut out), Ok(mut err)) = (
-        MemSink::with_room(alloc, room, Vec::new(alloc)),
-        MemSink::with_room(alloc, 400, Vec::new(alloc)),
-    ) else {
-        return Err(AllocError);
-    };
-    let report = run(rt, alloc, &words, &mut shelf, &mut out, &mut err, &FreeGate);
-    Ok(Ended {
-        status: report.status,
-        out,
-        err,
-        shelf,
-    })
-}
 
 // A shelf with the files of a row, of which one call fails.
 fn shelf_of(alloc: Global, row: &Row) -> Result<MemShelf, AllocError> {
@@ -94,6 +53,14 @@ fn shelf_of(alloc: Global, row: &Row) -> Result<MemShelf, AllocError> {
     Ok(shelf)
 }
 
+// Whether a run ends as the row says.
+fn ends_so<R: Threads + Wait + Sync>(rt: &R, alloc: Global, row: &Row) -> Result<bool, AllocError> {
+    let mut shelf = shelf_of(alloc, row)?;
+    let mut sinks = Sinks::new(alloc, row.room, Vec::new(alloc), Vec::new(alloc))?;
+    let report = run_words(rt, alloc, row.words, &mut shelf, &mut sinks, &FreeGate)?;
+    Ok(report.status == row.status && sinks.hold(row.out, row.err))
+}
+
 // The first row that ends otherwise than it says.
 fn first_wrong<R: Threads + Wait + Sync>(
     rt: &R,
@@ -101,15 +68,23 @@ fn first_wrong<R: Threads + Wait + Sync>(
     rows: &[Row],
 ) -> Result<Option<&'static str>, AllocError> {
     for row in rows {
-        let ended = end_of(rt, alloc, row.words, shelf_of(alloc, row)?, row.room)?;
-        if ended.status != row.status
-            || ended.out.bytes() != row.out.as_bytes()
-            || ended.err.bytes() != row.err.as_bytes()
-        {
+        if !ends_so(rt, alloc, row)? {
             return Ok(Some(row.words));
         }
     }
     Ok(None)
+}
+
+// How a run over a shelf ends, and what it prints.
+fn printed<R: Threads + Wait + Sync>(
+    rt: &R,
+    alloc: Global,
+    words: &str,
+    shelf: &mut MemShelf,
+) -> Result<(u8, MemSink), AllocError> {
+    let mut sinks = Sinks::new(alloc, 400, Vec::new(alloc), Vec::new(alloc))?;
+    let report = run_words(rt, alloc, words, shelf, &mut sinks, &FreeGate)?;
+    Ok((report.status, sinks.out))
 }
 
 fn answered(
@@ -263,13 +238,14 @@ fn is_cut_at<R: Threads + Wait + Sync>(
     room: usize,
 ) -> Result<bool, AllocError> {
     let words = "sec check left right -k 2 --trace made";
-    let shelf = shelf_of(alloc, &failed(words, u64::MAX, room, 6, ""))?;
-    let ended = end_of(rt, alloc, words, shelf, room)?;
+    let mut shelf = shelf_of(alloc, &failed(words, u64::MAX, room, 6, ""))?;
+    let mut sinks = Sinks::new(alloc, room, Vec::new(alloc), Vec::new(alloc))?;
+    let report = run_words(rt, alloc, words, &mut shelf, &mut sinks, &FreeGate)?;
     Ok(
-        ended.status == 6
-            && Some(ended.out.bytes()) == DIFFERENT.as_bytes().get(..room)
-            && ended.err.bytes() == b"sec: output: write failed\n".as_slice()
-            && ended.shelf.get("made") == Some(TRACE.as_bytes()),
+        report.status == 6
+            && Some(sinks.out.bytes()) == DIFFERENT.as_bytes().get(..room)
+            && sinks.err.bytes() == b"sec: output: write failed\n".as_slice()
+            && shelf.get("made") == Some(TRACE.as_bytes()),
     )
 }
 
@@ -290,10 +266,10 @@ fn is_verified<R: Threads + Wait + Sync>(
     left: &'static str,
     right: &'static str,
 ) -> Result<bool, AllocError> {
-    let shelf = shelf_of(alloc, &answered(words, left, right.as_bytes(), 0, ""))?;
-    let stored = end_of(rt, alloc, words, shelf, 400)?;
-    let read = end_of(rt, alloc, "sec verify left right made", stored.shelf, 400)?;
-    Ok(stored.status == 0 && read.out.bytes() == b"verified\n".as_slice())
+    let mut shelf = shelf_of(alloc, &answered(words, left, right.as_bytes(), 0, ""))?;
+    let (stored, _) = printed(rt, alloc, words, &mut shelf)?;
+    let (_, read) = printed(rt, alloc, "sec verify left right made", &mut shelf)?;
+    Ok(stored == 0 && read.bytes() == b"verified\n".as_slice())
 }
 
 #[test]
@@ -327,11 +303,11 @@ fn demo_shelf(alloc: Global, n: u32) -> Result<MemShelf, AllocError>
 #[test]
 fn files_of_a_hundred_inputs_are_answered_as_their_pair_is(rt: HostRuntime) -> Result<(), Fail> {
     let alloc = rt.alloc();
-    let none = MemShelf::new(alloc, Vec::new(alloc));
-    let made = end_of(&rt, alloc, "sec demo 100", none, 400)?;
-    let files = demo_shelf(alloc, 100)?;
-    let read = end_of(&rt, alloc, "sec check left right", files, 400)?;
-    assert_eq!(rt; read.status, 0);
-    assert!(rt; made.out.bytes().ends_with(read.out.bytes()));
+    let mut none = MemShelf::new(alloc, Vec::new(alloc));
+    let (_, made) = printed(&rt, alloc, "sec demo 100", &mut none)?;
+    let mut files = demo_shelf(alloc, 100)?;
+    let (status, read) = printed(&rt, alloc, "sec check left right", &mut files)?;
+    assert_eq!(rt; status, 0);
+    assert!(rt; made.bytes().ends_with(read.bytes()));
     Ok(())
 }

@@ -1,5 +1,5 @@
 //! Runs of `reduce`: what is stored, what is printed, and what is refused.
-use crate::runs::{RING, TOGGLE, answers_so, case, holds, run_so};
+use crate::runs::{RING, Sinks, TOGGLE, answers_so, answers_without, case, leaves, leaves_past};
 use std::test::Fail;
 
 // Three latches: one toggles from 0, one from 1, and one stays low.
@@ -26,8 +26,10 @@ fn a_netlist_without_its_equal_signals_is_stored(rt: HostRuntime) -> Result<(), 
         ("sec reduce left made -k 3", RING, less, RING_ALONE),
     ] {
         let row = case(words, source, "", 0, out, "");
-        let shelf = run_so(&rt, alloc, &row, Vec::new(alloc), Vec::new(alloc))?;
-        assert!(rt; holds(&shelf, "made", file.as_bytes()), "{words}");
+        assert!(rt;
+            leaves(&rt, alloc, &row, "made", Some(file.as_bytes()))?,
+            "{words}"
+        );
     }
     Ok(())
 }
@@ -49,13 +51,20 @@ fn a_netlist_that_is_not_reduced_leaves_the_files(rt: HostRuntime) -> Result<(),
     let fault = case(words, "abc", "", 4, "", "sec: left: header at byte 0\n");
     assert!(rt; answers_so(&rt, alloc, &fault)?);
     let unread = case(words, TOGGLE, "", 5, "", "sec: left: read failed\n");
-    let shelf = run_so(&rt, alloc, &unread, vec![in alloc; 0]?, Vec::new(alloc))?;
-    assert!(rt; shelf.is_some());
+    assert!(rt; answers_without(&rt, alloc, &unread, 0)?);
     let unstored = case(words, TOGGLE, "", 6, "", "sec: made: write failed\n");
-    let shelf = run_so(&rt, alloc, &unstored, vec![in alloc; 1]?, Vec::new(alloc))?;
-    assert!(rt; shelf.is_some());
+    assert!(rt; answers_without(&rt, alloc, &unstored, 1)?);
     let unwritten = case(words, TOGGLE, "", 6, "", "sec: output: write failed\n");
-    let shelf = run_so(&rt, alloc, &unwritten, Vec::new(alloc), vec![in alloc; 0]?)?;
-    assert!(rt; holds(&shelf, "made", TOGGLE.as_bytes()));
+    let mut sinks = Sinks::new(alloc, 400, vec![in alloc; 0]?, Vec::new(alloc))?;
+    assert!(rt;
+        leaves_past(
+            &rt,
+            alloc,
+            &unwritten,
+            &mut sinks,
+            "made",
+            Some(TOGGLE.as_bytes())
+        )?
+    );
     Ok(())
 }

@@ -36,6 +36,9 @@ pub(crate) const DELAY: &str = "aag 2 1 1 1 0\n2\n4 2\n4\n";
 pub(crate) const MASKED: &str =
     "aag 10 1 3 1 6\n2\n4 2\n6 21\n8 1\n6\n10 4 9\n12 5 8\n14 11 13\n16 2 14\n18 3 15\n20 17 19\n";
 
+// The trace of the toggling latch and the constant.
+const STORED: &str = "1\nb0\n0\n\n\n.\n";
+
 pub(crate) fn words_of(alloc: Global, text: &str) -> Result<Vec<String>, AllocError> {
     let mut words = Vec::new(alloc);
     for word in text.split(' ') {
@@ -45,70 +48,148 @@ pub(crate) fn words_of(alloc: Global, text: &str) -> Result<Vec<String>, AllocEr
 }
 
 // A shelf with the files of a row, of which the calls that are listed fail.
-pub(crate) fn shelf_of(alloc: Global, row: &Row, fails: Vec<u64>) -> Option<MemShelf> {
+pub(crate) fn shelf_of(alloc: Global, row: &Row, fails: Vec<u64>) -> Result<MemShelf, AllocError> {
     let mut shelf = MemShelf::new(alloc, fails);
-    if shelf.put("left", row.left.as_bytes()).is_err() {
-        return None;
-    }
-    if shelf.put("right", row.right.as_bytes()).is_err() {
-        return None;
-    }
-    if shelf.put("trace", row.trace.as_bytes()).is_err() {
-        return None;
-    }
-    Some(shelf)
+    let stand = shelf.put("left", row.left.as_bytes()).is_ok()
+        && shelf.put("right", row.right.as_bytes()).is_ok()
+        && shelf.put("trace", row.trace.as_bytes()).is_ok();
+    if stand { Ok(shelf) } else { Err(AllocError) }
 }
 
-// Runs over a shelf and sinks in memory, of which the calls that are listed fail, and answers the shelf where all is as the row
-// has it.
-pub(crate) fn run_so<R: Threads + Wait + Sync>(
+// Where a run prints.
+#[derive(Drop)]
+pub(crate) struct Sinks {
+    pub(crate) out: MemSink,
+    pub(crate) err: MemSink,
+}
+
+impl Sinks {
+    // Sinks in memory, of which the calls that are listed fail. The output has so much room.
+    pub(crate) fn new(
+        alloc: Global,
+        room: usize,
+        out_fails: Vec<u64>,
+        err_fails: Vec<u64>,
+    ) -> Result<Sinks, AllocError> {
+        let Ok(out) = MemSink::with_room(alloc, room, out_fails) else {
+            return Err(AllocError);
+        };
+        let Ok(err) = MemSink::with_room(alloc, 400, err_fails) else {
+            return Err(AllocError);
+        };
+        Ok(Sinks { out, err })
+    }
+
+    // Whether they took these texts.
+    pub(crate) fn hold(&self, out: &str, err: &str) -> bool {
+        self.out.bytes() == out.as_bytes() && self.err.bytes() == err.as_bytes()
+    }
+}
+
+// Runs these words over a shelf and sinks in memory.
+pub(crate) fn run_words<R: Threads + Wait + Sync, G: Gate>(
+    rt: &R,
+    alloc: Global,
+    words: &str,
+    shelf: &mut MemShelf,
+    sinks: &mut Sinks,
+    gate: &G,
+) -> Result<Report, AllocError> {
+    let words = words_of(alloc, words)?;
+    Ok(run(
+        rt,
+        alloc,
+        &words,
+        shelf,
+        &mut sinks.out,
+        &mut sinks.err,
+        gate,
+    ))
+}
+
+// Whether a run over these devices ends as the row has it.
+fn ends_so<R: Threads + Wait + Sync, G: Gate>(
     rt: &R,
     alloc: Global,
     row: &Row,
-    shelf_fails: Vec<u64>,
-    out_fails: Vec<u64>,
-) -> Result<Option<MemShelf>, AllocError> {
-    run_within(rt, alloc, row, shelf_fails, out_fails, Vec::new(alloc), 400)
+    shelf: &mut MemShelf,
+    sinks: &mut Sinks,
+    gate: &G,
+) -> Result<bool, AllocError> {
+    let report = run_words(rt, alloc, row.words, shelf, sinks, gate)?;
+    Ok(report.status == row.status && sinks.hold(row.out, row.err))
 }
 
-// The same, where calls of the error sink fail too, and the output has so much room.
-fn run_within<R: Threads + Wait + Sync>(
+// Whether a run over this shelf answers as the row has it.
+fn answers_on<R: Threads + Wait + Sync>(
     rt: &R,
     alloc: Global,
     row: &Row,
-    shelf_fails: Vec<u64>,
-    out_fails: Vec<u64>,
-    err_fails: Vec<u64>,
-    out_room: usize,
-) -> Result<Option<MemShelf>, AllocError> {
-    let words = words_of(alloc, row.words)?;
-    let Some(mut shelf) = shelf_of(alloc, row, shelf_fails) else {
-        return Ok(None);
-    };
-    let (Ok(mut out), Ok(mut err)) = (
-        MemSink::with_room(alloc, out_room, out_fails),
-        MemSink::with_room(alloc, 400, err_fails),
-    ) else {
-        return Ok(None);
-    };
-    let report = run(rt, alloc, &words, &mut shelf, &mut out, &mut err, &FreeGate);
-    if report.status == row.status
-        && out.bytes() == row.out.as_bytes()
-        && err.bytes() == row.err.as_bytes()
-    {
-        Ok(Some(shelf))
-    } else {
-        Ok(None)
-    }
+    shelf: &mut MemShelf,
+) -> Result<bool, AllocError> {
+    let mut sinks = Sinks::new(alloc, 400, Vec::new(alloc), Vec::new(alloc))?;
+    ends_so(rt, alloc, row, shelf, &mut sinks, &FreeGate)
 }
 
+// Whether a run answers as the row has it.
 pub(crate) fn answers_so<R: Threads + Wait + Sync>(
     rt: &R,
     alloc: Global,
     row: &Row,
 ) -> Result<bool, AllocError> {
-    let shelf = run_so(rt, alloc, row, Vec::new(alloc), Vec::new(alloc))?;
-    Ok(shelf.is_some())
+    let mut shelf = shelf_of(alloc, row, Vec::new(alloc))?;
+    answers_on(rt, alloc, row, &mut shelf)
+}
+
+// Whether it does where a call of the shelf fails.
+pub(crate) fn answers_without<R: Threads + Wait + Sync>(
+    rt: &R,
+    alloc: Global,
+    row: &Row,
+    call: u64,
+) -> Result<bool, AllocError> {
+    let mut shelf = shelf_of(alloc, row, vec![in alloc; call]?)?;
+    answers_on(rt, alloc, row, &mut shelf)
+}
+
+// Whether a run into these sinks ends as the row has it and leaves this file, or none, under a name.
+pub(crate) fn leaves_past<R: Threads + Wait + Sync>(
+    rt: &R,
+    alloc: Global,
+    row: &Row,
+    sinks: &mut Sinks,
+    name: &str,
+    file: Option<&[u8]>,
+) -> Result<bool, AllocError> {
+    let mut shelf = shelf_of(alloc, row, Vec::new(alloc))?;
+    let so = ends_so(rt, alloc, row, &mut shelf, sinks, &FreeGate)?;
+    Ok(so && shelf.get(name) == file)
+}
+
+// The same where no call fails.
+pub(crate) fn leaves<R: Threads + Wait + Sync>(
+    rt: &R,
+    alloc: Global,
+    row: &Row,
+    name: &str,
+    file: Option<&[u8]>,
+) -> Result<bool, AllocError> {
+    let mut sinks = Sinks::new(alloc, 400, Vec::new(alloc), Vec::new(alloc))?;
+    leaves_past(rt, alloc, row, &mut sinks, name, file)
+}
+
+// The words of the first row that a run doesn't end as it has it.
+pub(crate) fn first_other<R: Threads + Wait + Sync>(
+    rt: &R,
+    alloc: Global,
+    rows: &[Row],
+) -> Result<Option<&'static str>, AllocError> {
+    for row in rows {
+        if !answers_so(rt, alloc, row)? {
+            return Ok(Some(row.words));
+        }
+    }
+    Ok(None)
 }
 
 pub(crate) fn case(
@@ -123,7 +204,7 @@ pub(crate) fn case(
         words,
         left,
         right,
-        trace: "1\nb0\n0\n\n\n.\n",
+        trace: STORED,
         status,
         out,
         err,
@@ -213,9 +294,7 @@ fn pairs_that_are_proved(rt: HostRuntime) -> Result<(), Fail> {
             "",
         ),
     ];
-    for row in rows.iter() {
-        assert!(rt; answers_so(&rt, alloc, row)?);
-    }
+    assert_eq!(rt; first_other(&rt, alloc, rows.as_slice())?, None);
     Ok(())
 }
 
@@ -296,9 +375,7 @@ fn pairs_that_differ_or_stay_open(rt: HostRuntime) -> Result<(), Fail> {
             "sec: trace: length at line 3\n",
         ),
     ];
-    for row in rows.iter() {
-        assert!(rt; answers_so(&rt, alloc, row)?);
-    }
+    assert_eq!(rt; first_other(&rt, alloc, rows.as_slice())?, None);
     Ok(())
 }
 
@@ -359,9 +436,7 @@ fn files_that_are_refused(rt: HostRuntime) -> Result<(), Fail> {
             "sec: none: read failed\n",
         ),
     ];
-    for row in rows.iter() {
-        assert!(rt; answers_so(&rt, alloc, row)?);
-    }
+    assert_eq!(rt; first_other(&rt, alloc, rows.as_slice())?, None);
     Ok(())
 }
 
@@ -448,9 +523,7 @@ fn numbers_of_entries(rt: HostRuntime) -> Result<(), Fail> {
             "",
         ),
     ];
-    for row in rows.iter() {
-        assert!(rt; answers_so(&rt, alloc, row)?);
-    }
+    assert_eq!(rt; first_other(&rt, alloc, rows.as_slice())?, None);
     Ok(())
 }
 
@@ -490,9 +563,7 @@ fn any_number_of_workers_tells_the_same(rt: HostRuntime) -> Result<(), Fail> {
         case("sec demo 10 -j 2", "", "", 0, ten, ""),
         case("sec demo 10 -j 7", "", "", 0, ten, ""),
     ];
-    for row in rows.iter() {
-        assert!(rt; answers_so(&rt, alloc, row)?);
-    }
+    assert_eq!(rt; first_other(&rt, alloc, rows.as_slice())?, None);
     Ok(())
 }
 
@@ -503,18 +574,9 @@ fn answers_at<R: Threads + Wait + Sync, G: Gate>(
     row: &Row,
     gate: &G,
 ) -> Result<bool, AllocError> {
-    let words = words_of(alloc, row.words)?;
-    let Some(mut shelf) = shelf_of(alloc, row, Vec::new(alloc)) else {
-        return Ok(false);
-    };
-    let (Ok(mut out), Ok(mut err)) = (
-        MemSink::with_room(alloc, 400, Vec::new(alloc)),
-        MemSink::with_room(alloc, 400, Vec::new(alloc)),
-    ) else {
-        return Ok(false);
-    };
-    let report = run(rt, alloc, &words, &mut shelf, &mut out, &mut err, gate);
-    Ok(report.status == row.status && out.bytes() == row.out.as_bytes())
+    let mut shelf = shelf_of(alloc, row, Vec::new(alloc))?;
+    let mut sinks = Sinks::new(alloc, 400, Vec::new(alloc), Vec::new(alloc))?;
+    ends_so(rt, alloc, row, &mut shelf, &mut sinks, gate)
 }
 
 #[test]
@@ -539,52 +601,18 @@ fn seven_workers_tell_the_same_each_time(rt: HostRuntime) -> Result<(), Fail> {
     Ok(())
 }
 
+// Words that are no command, of which one ends at each semicolon.
+const NO_COMMANDS: &str =
+    "sec;sec help;sec --help;sec check left right -h;sec --version;sec check left;sec check left right more;sec check left right -k;sec check left right -k 0;sec check left right -k 17;sec check left right -k17;sec check left right -k 1 -k 1;sec check left right -j 65;sec check left right --classes --classes;sec check left right --stats --stats;sec check left right -d 65;sec check left right --tie --tie;sec replay left right trace --least;sec demo 1 --tie;sec check left right --trace -k;sec replay left right;sec replay left right trace -k 1;sec verify left right;sec verify left right trace -k 1;sec check left right --cert;sec check left right --cert a --cert b;sec verify left right trace --cert a;sec demo 1 --cert a;sec proof left right;sec demo;sec demo 100001;sec demo 1 2;sec demo 1 --classes;sec demo 1 --stats;sec replay left right trace --stats;sec demo -k 1;sec climb left;sec climb left right -k 1";
+
 #[test]
 fn words_that_are_no_command(rt: HostRuntime) -> Result<(), Fail> {
     let alloc = rt.alloc();
     let usage =
         "usage: sec check LEFT RIGHT [-k K] [-d D] [-j J] [--classes] [--stats] [--trace FILE] [--cert FILE] [--tie] [--least]\n       sec replay LEFT RIGHT TRACE [--tie]\n       sec verify LEFT RIGHT CERT [--tie]\n       sec demo N [-k K] [-j J]\n       sec climb LEFT RIGHT [-m M] [-j J] [--least]\n       sec reduce NET OUT [-k K] [-j J] [--binary]\n       sec batch LIST [-k K] [-j J]\n";
-    for words in [
-        "sec",
-        "sec help",
-        "sec --help",
-        "sec check left right -h",
-        "sec --version",
-        "sec check left",
-        "sec check left right more",
-        "sec check left right -k",
-        "sec check left right -k 0",
-        "sec check left right -k 17",
-        "sec check left right -k17",
-        "sec check left right -k 1 -k 1",
-        "sec check left right -j 65",
-        "sec check left right --classes --classes",
-        "sec check left right --stats --stats",
-        "sec check left right -d 65",
-        "sec check left right --tie --tie",
-        "sec replay left right trace --least",
-        "sec demo 1 --tie",
-        "sec check left right --trace -k",
-        "sec replay left right",
-        "sec replay left right trace -k 1",
-        "sec verify left right",
-        "sec verify left right trace -k 1",
-        "sec check left right --cert",
-        "sec check left right --cert a --cert b",
-        "sec verify left right trace --cert a",
-        "sec demo 1 --cert a",
-        "sec proof left right",
-        "sec demo",
-        "sec demo 100001",
-        "sec demo 1 2",
-        "sec demo 1 --classes",
-        "sec demo 1 --stats",
-        "sec replay left right trace --stats",
-        "sec demo -k 1",
-        "sec climb left",
-        "sec climb left right -k 1",
-    ] {
-        assert!(rt; answers_so(&rt, alloc, &case(words, TOGGLE, TOGGLE, 3, "", usage))?);
+    for words in NO_COMMANDS.split(';') {
+        let row = case(words, TOGGLE, TOGGLE, 3, "", usage);
+        assert!(rt; answers_so(&rt, alloc, &row)?, "{words}");
     }
     Ok(())
 }
@@ -600,8 +628,10 @@ fn other_spellings_mean_the_same(rt: HostRuntime) -> Result<(), Fail> {
         "sec check left right -k 02 --trace made",
     ] {
         let row = case(words, TOGGLE, LOW, 1, different, "");
-        let shelf = run_so(&rt, alloc, &row, Vec::new(alloc), Vec::new(alloc))?;
-        assert!(rt; holds(&shelf, "made", b"1\nb0\n0\n\n\n.\n"));
+        assert!(rt;
+            leaves(&rt, alloc, &row, "made", Some(STORED.as_bytes()))?,
+            "{words}"
+        );
     }
     let demo =
         "demo n=2 inputs=2 latches=2 gates=12 outputs=2\nequivalent k=1 signals=31 classes=9\n";
@@ -617,29 +647,24 @@ fn a_trace_is_stored_before_it_is_printed(rt: HostRuntime) -> Result<(), Fail> {
     let words = "sec check left right -k 2 --trace made";
     let text = "different k=2 frame=1 output=0\n1\nb0\n0\n\n\n.\n";
     let made = case(words, TOGGLE, LOW, 1, text, "");
-    let shelf = run_so(&rt, alloc, &made, Vec::new(alloc), Vec::new(alloc))?;
-    assert!(rt; holds(&shelf, "made", b"1\nb0\n0\n\n\n.\n"));
+    assert!(rt; leaves(&rt, alloc, &made, "made", Some(STORED.as_bytes()))?);
     let unwritten = case(words, TOGGLE, LOW, 6, "", "sec: output: write failed\n");
-    let shelf = run_so(&rt, alloc, &unwritten, Vec::new(alloc), vec![in alloc; 0]?)?;
-    assert!(rt; holds(&shelf, "made", b"1\nb0\n0\n\n\n.\n"));
+    let mut sinks = Sinks::new(alloc, 400, vec![in alloc; 0]?, Vec::new(alloc))?;
+    assert!(rt;
+        leaves_past(
+            &rt,
+            alloc,
+            &unwritten,
+            &mut sinks,
+            "made",
+            Some(STORED.as_bytes())
+        )?
+    );
     let unstored = case(words, TOGGLE, LOW, 6, "", "sec: made: write failed\n");
-    let shelf = run_so(&rt, alloc, &unstored, vec![in alloc; 2]?, Vec::new(alloc))?;
-    assert!(rt; shelf.is_some());
+    assert!(rt; answers_without(&rt, alloc, &unstored, 2)?);
     let unread = case(words, TOGGLE, LOW, 5, "", "sec: left: read failed\n");
-    let shelf = run_so(&rt, alloc, &unread, vec![in alloc; 0]?, Vec::new(alloc))?;
-    assert!(rt; shelf.is_some());
+    assert!(rt; answers_without(&rt, alloc, &unread, 0)?);
     Ok(())
-}
-
-// Whether the shelf holds these bytes under a name.
-pub(crate) fn holds(shelf: &Option<MemShelf>, name: &str, bytes: &[u8]) -> bool {
-    match shelf {
-        Some(shelf) => match shelf.get(name) {
-            Some(file) => file == bytes,
-            None => false,
-        },
-        None => false,
-    }
 }
 
 // The pair of two texts.
@@ -803,9 +828,7 @@ fn differences_are_sought_deeper_than_the_induction(rt: HostRuntime) -> Result<(
         case("sec check left right -d 64", LOW, RING, 2, ring, ""),
         case("sec check left right -d 64 -j 3", LOW, RING, 2, ring, ""),
     ];
-    for row in rows.iter() {
-        assert!(rt; answers_so(&rt, alloc, row)?);
-    }
+    assert_eq!(rt; first_other(&rt, alloc, rows.as_slice())?, None);
     // The first input is 0; the others are free.
     let four = [
         "different k=1 frame=2 output=0\n1\nb0\n0000\n0\n0\n0\n.\n",
@@ -885,9 +908,7 @@ fn free_latches_may_be_tied(rt: HostRuntime) -> Result<(), Fail> {
             ),
         ),
     ];
-    for row in rows.iter() {
-        assert!(rt; answers_so(&rt, alloc, row)?);
-    }
+    assert_eq!(rt; first_other(&rt, alloc, rows.as_slice())?, None);
     let made = case(
         "sec check left right --tie --cert made",
         FREE,
@@ -954,9 +975,7 @@ fn the_least_run_is_shown_where_it_is_asked_for(rt: HostRuntime) -> Result<(), F
         ),
         case("sec check left right --least", TOGGLE, LOW, 2, open, ""),
     ];
-    for row in rows.iter() {
-        assert!(rt; answers_so(&rt, alloc, row)?);
-    }
+    assert_eq!(rt; first_other(&rt, alloc, rows.as_slice())?, None);
     let made = case(
         "sec check left right --least --trace made",
         FREE,
@@ -965,8 +984,8 @@ fn the_least_run_is_shown_where_it_is_asked_for(rt: HostRuntime) -> Result<(), F
         start,
         "",
     );
-    let shelf = run_so(&rt, alloc, &made, Vec::new(alloc), Vec::new(alloc))?;
-    assert!(rt; holds(&shelf, "made", b"1\nb0\n01\n\n.\n"));
+    let file = b"1\nb0\n01\n\n.\n".as_slice();
+    assert!(rt; leaves(&rt, alloc, &made, "made", Some(file))?);
     Ok(())
 }
 
@@ -1024,20 +1043,32 @@ fn an_output_with_little_room_takes_a_part(rt: HostRuntime) -> Result<(), Fail> 
         "different ",
         "sec: output: write failed\n",
     );
-    let shelf = run_within(
-        &rt,
-        alloc,
-        &cut,
-        Vec::new(alloc),
-        Vec::new(alloc),
-        Vec::new(alloc),
-        10,
-    )?;
-    assert!(rt; holds(&shelf, "made", b"1\nb0\n0\n\n\n.\n"));
+    let mut sinks = Sinks::new(alloc, 10, Vec::new(alloc), Vec::new(alloc))?;
+    assert!(rt;
+        leaves_past(
+            &rt,
+            alloc,
+            &cut,
+            &mut sinks,
+            "made",
+            Some(STORED.as_bytes())
+        )?
+    );
     let second = case(words, TOGGLE, LOW, 5, "", "sec: right: read failed\n");
-    let shelf = run_so(&rt, alloc, &second, vec![in alloc; 1]?, Vec::new(alloc))?;
-    assert!(rt; shelf.is_some());
+    assert!(rt; answers_without(&rt, alloc, &second, 1)?);
     Ok(())
+}
+
+// Whether a run whose first file isn't read ends as the row has it, where a call of the error sink fails too.
+fn tells_without<R: Threads + Wait + Sync>(
+    rt: &R,
+    alloc: Global,
+    row: &Row,
+    call: u64,
+) -> Result<bool, AllocError> {
+    let mut shelf = shelf_of(alloc, row, vec![in alloc; 0]?)?;
+    let mut sinks = Sinks::new(alloc, 400, Vec::new(alloc), vec![in alloc; call]?)?;
+    ends_so(rt, alloc, row, &mut shelf, &mut sinks, &FreeGate)
 }
 
 #[test]
@@ -1046,10 +1077,7 @@ fn an_error_sink_that_fails_takes_a_part(rt: HostRuntime) -> Result<(), Fail> {
     let words = "sec check left right -k 2 --trace made";
     for (call, part) in [(0, ""), (1, "sec: "), (2, "sec: left"), (3, "sec: left: ")] {
         let unread = case(words, TOGGLE, LOW, 5, "", part);
-        let none = vec![in alloc; 0]?;
-        let fails = vec![in alloc; call]?;
-        let shelf = run_within(&rt, alloc, &unread, none, Vec::new(alloc), fails, 400)?;
-        assert!(rt; shelf.is_some());
+        assert!(rt; tells_without(&rt, alloc, &unread, call)?);
     }
     Ok(())
 }
@@ -1135,28 +1163,6 @@ fn certificates_are_verified(rt: HostRuntime) -> Result<(), Fail> {
     Ok(())
 }
 
-// Whether a run over this shelf answers as the row has it.
-fn answers_on<R: Threads + Wait + Sync>(
-    rt: &R,
-    alloc: Global,
-    row: &Row,
-    shelf: &mut MemShelf,
-) -> Result<bool, AllocError> {
-    let words = words_of(alloc, row.words)?;
-    let Ok(mut out) = MemSink::with_room(alloc, 400, Vec::new(alloc)) else {
-        return Ok(false);
-    };
-    let Ok(mut err) = MemSink::with_room(alloc, 400, Vec::new(alloc)) else {
-        return Ok(false);
-    };
-    let report = run(rt, alloc, &words, shelf, &mut out, &mut err, &FreeGate);
-    Ok(
-        report.status == row.status
-            && out.bytes() == row.out.as_bytes()
-            && err.bytes() == row.err.as_bytes(),
-    )
-}
-
 // Whether one run stores what the next one finds without a fault.
 fn stores_what_verifies<R: Threads + Wait + Sync>(
     rt: &R,
@@ -1164,18 +1170,8 @@ fn stores_what_verifies<R: Threads + Wait + Sync>(
     made: &Row,
     verified: &Row,
 ) -> Result<bool, AllocError> {
-    let Some(mut shelf) = run_so(rt, alloc, made, Vec::new(alloc), Vec::new(alloc))? else {
-        return Ok(false);
-    };
-    answers_on(rt, alloc, verified, &mut shelf)
-}
-
-// Whether there is a shelf, and nothing under a name on it.
-fn lacks(shelf: &Option<MemShelf>, name: &str) -> bool {
-    match shelf {
-        Some(shelf) => shelf.get(name).is_none(),
-        None => false,
-    }
+    let mut shelf = shelf_of(alloc, made, Vec::new(alloc))?;
+    Ok(answers_on(rt, alloc, made, &mut shelf)? && answers_on(rt, alloc, verified, &mut shelf)?)
 }
 
 #[test]
@@ -1193,31 +1189,17 @@ fn certificates_are_stored_of_equivalent_pairs(rt: HostRuntime) -> Result<(), Fa
         "",
     );
     assert!(rt; stores_what_verifies(&rt, alloc, &made, &verified)?);
-    let shelf = run_so(&rt, alloc, &made, Vec::new(alloc), Vec::new(alloc))?;
-    assert!(rt; lacks(&shelf, "other"));
+    assert!(rt; leaves(&rt, alloc, &made, "other", None)?);
     let open = "undecided k=1 signals=2 classes=2 unpaired=0\n";
-    let shelf = run_so(
-        &rt,
-        alloc,
-        &case(words, TOGGLE, LOW, 2, open, ""),
-        Vec::new(alloc),
-        Vec::new(alloc),
-    )?;
-    assert!(rt; lacks(&shelf, "made"));
-    assert!(rt; lacks(&shelf, "other"));
+    let unmade = case(words, TOGGLE, LOW, 2, open, "");
+    assert!(rt; leaves(&rt, alloc, &unmade, "made", None)?);
+    assert!(rt; leaves(&rt, alloc, &unmade, "other", None)?);
     let deep = "sec check left right -k 2 --cert made --trace other";
     let text = "different k=2 frame=1 output=0\n1\nb0\n0\n\n\n.\n";
-    let shelf = run_so(
-        &rt,
-        alloc,
-        &case(deep, TOGGLE, LOW, 1, text, ""),
-        Vec::new(alloc),
-        Vec::new(alloc),
-    )?;
-    assert!(rt; lacks(&shelf, "made"));
-    assert!(rt; holds(&shelf, "other", b"1\nb0\n0\n\n\n.\n"));
+    let differs = case(deep, TOGGLE, LOW, 1, text, "");
+    assert!(rt; leaves(&rt, alloc, &differs, "made", None)?);
+    assert!(rt; leaves(&rt, alloc, &differs, "other", Some(STORED.as_bytes()))?);
     let unstored = case(words, TOGGLE, TOGGLE, 6, "", "sec: made: write failed\n");
-    let shelf = run_so(&rt, alloc, &unstored, vec![in alloc; 2]?, Vec::new(alloc))?;
-    assert!(rt; shelf.is_some());
+    assert!(rt; answers_without(&rt, alloc, &unstored, 2)?);
     Ok(())
 }

@@ -1,14 +1,7 @@
+use crate::runs::words_of;
 use command_line::*;
 use std::alloc::{AllocError, Global};
 use std::test::Fail;
-
-fn words_of(alloc: Global, text: &str) -> Result<Vec<String>, AllocError> {
-    let mut words = Vec::new(alloc);
-    for word in text.split(' ') {
-        words.push(format!(in alloc; "{word}")?)?;
-    }
-    Ok(words)
-}
 
 // An option with a name, where it was there.
 fn named(alloc: Global, option: &str, name: Option<&str>) -> Result<String, AllocError> {
@@ -176,90 +169,13 @@ fn other_spellings_that_clap_takes(rt: HostRuntime) -> Result<(), Fail> {
     Ok(())
 }
 
+// Words that are no command, of which one ends at each semicolon.
+const NO_COMMANDS: &str =
+    ";sec;sec ;sec help;sec help check;sec -h;sec --help;sec check --help;sec check a b -h;sec check -h;sec --version;sec -V;sec check a b --version;sec proof a b;sec Check a b;sec chec a b;sec -k 2 check a b;sec -- check a b;sec check;sec check a;sec check a b c;sec check a b ;sec check a b -k;sec check a b -k ;sec check a b -k 0;sec check a b -k0;sec check a b -k=0;sec check a b -k 17;sec check a b -k17;sec check a b -k x;sec check a b -k -1;sec check a b -k=-1;sec check a b -k 2 -k 3;sec check a b -k 2 -k2;sec check a b -kj;sec check a b -k 1.0;sec check a b -k 99999999999999999999;sec check a b --k 2;sec check a b -K 2;sec check a b -j 0;sec check a b -j 65;sec check a b -d 0;sec check a b -d 65;sec check a b -d 2 -d 3;sec check a b --classes --classes;sec check a b --classes=1;sec check a b --classes=;sec check a b --class;sec check a b -classes;sec check a b --trace;sec check a b --trace -k;sec check a b --trace --;sec check a b --cert c --cert d;sec check a b -t f;sec replay a b;sec replay a b t -k 1;sec replay a b -t;sec verify a b c d;sec demo;sec demo x;sec demo 100001;sec demo 1 2;sec demo 1 --stats;sec demo 1 -d 2;sec demo -- -1;sec climb a;sec climb a b c;sec climb a b -m 0;sec climb a b -m 17;sec climb a b -k 2;sec climb a b --tie;sec climb a b --least --least;sec reduce n;sec reduce n o p;sec reduce n o -k 0;sec reduce n o --binary --binary;sec batch;sec batch l m;sec batch l -k 17;sec batch l --least";
+
 #[test]
 fn words_that_are_no_command(rt: HostRuntime) -> Result<(), Fail> {
-    for text in [
-        "",
-        "sec",
-        "sec ",
-        "sec help",
-        "sec help check",
-        "sec -h",
-        "sec --help",
-        "sec check --help",
-        "sec check a b -h",
-        "sec check -h",
-        "sec --version",
-        "sec -V",
-        "sec check a b --version",
-        "sec proof a b",
-        "sec Check a b",
-        "sec chec a b",
-        "sec -k 2 check a b",
-        "sec -- check a b",
-        "sec check",
-        "sec check a",
-        "sec check a b c",
-        "sec check a b ",
-        "sec check a b -k",
-        "sec check a b -k ",
-        "sec check a b -k 0",
-        "sec check a b -k0",
-        "sec check a b -k=0",
-        "sec check a b -k 17",
-        "sec check a b -k17",
-        "sec check a b -k x",
-        "sec check a b -k -1",
-        "sec check a b -k=-1",
-        "sec check a b -k 2 -k 3",
-        "sec check a b -k 2 -k2",
-        "sec check a b -kj",
-        "sec check a b -k 1.0",
-        "sec check a b -k 99999999999999999999",
-        "sec check a b --k 2",
-        "sec check a b -K 2",
-        "sec check a b -j 0",
-        "sec check a b -j 65",
-        "sec check a b -d 0",
-        "sec check a b -d 65",
-        "sec check a b -d 2 -d 3",
-        "sec check a b --classes --classes",
-        "sec check a b --classes=1",
-        "sec check a b --classes=",
-        "sec check a b --class",
-        "sec check a b -classes",
-        "sec check a b --trace",
-        "sec check a b --trace -k",
-        "sec check a b --trace --",
-        "sec check a b --cert c --cert d",
-        "sec check a b -t f",
-        "sec replay a b",
-        "sec replay a b t -k 1",
-        "sec replay a b -t",
-        "sec verify a b c d",
-        "sec demo",
-        "sec demo x",
-        "sec demo 100001",
-        "sec demo 1 2",
-        "sec demo 1 --stats",
-        "sec demo 1 -d 2",
-        "sec demo -- -1",
-        "sec climb a",
-        "sec climb a b c",
-        "sec climb a b -m 0",
-        "sec climb a b -m 17",
-        "sec climb a b -k 2",
-        "sec climb a b --tie",
-        "sec climb a b --least --least",
-        "sec reduce n",
-        "sec reduce n o p",
-        "sec reduce n o -k 0",
-        "sec reduce n o --binary --binary",
-        "sec batch",
-        "sec batch l m",
-        "sec batch l -k 17",
-        "sec batch l --least",
-    ] {
+    for text in NO_COMMANDS.split(';') {
         assert_eq!(rt; said(rt.alloc(), text)?.as_str(), "no command", "{text}");
     }
     Ok(())
