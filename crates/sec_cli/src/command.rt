@@ -229,44 +229,40 @@ fn decide<R: Threads + Wait + Sync, S: Shelf, G: Gate>(
     }
 }
 
+// The names of a command's files: of the pair, or of the netlist, and of what it reads beside them.
+struct FileNames<'w> {
+    left: &'w str,
+    right: &'w str,
+    third: &'w str,
+}
+
+// The names of a command's files, of which some may be empty.
+fn file_names<'w>(command: Command<'w>) -> FileNames<'w>
+    ensures left { result.left.now ≡ left_name (asked_of command.entry) }
+    ensures right { result.right.now ≡ right_name (asked_of command.entry) }
+    ensures third { result.third.now ≡ third_name (asked_of command.entry) }
+{
+    let (left, right, third) = match command {
+        Command::Check(c) => (c.left, c.right, ""),
+        Command::Replay(c) => (c.left, c.right, c.trace),
+        Command::Verify(c) => (c.left, c.right, c.cert),
+        Command::Reduce(r) => (r.net, "", ""),
+        Command::Demo(_) => ("", "", ""),
+        Command::Batch(b) => ("", "", b.list),
+        Command::Climb(c) => (c.left, c.right, ""),
+    };
+    FileNames { left, right, third }
+}
+
 // Tells why a command answers nothing.
 fn refuse<E: Sink>(command: Command, refusal: &Refusal, err: &mut E) -> u8
     ensures status { result ≡ refusal_status refusal.now }
     ensures told { IsTold (E.taken err.old) (E.faults err.old) (told_of (asked_of command.entry) refusal.now) (E.taken err.new) (E.faults err.new) }
     ensures count { E.faults err.old ≤ E.faults err.new }
 {
-    match command {
-        Command::Check(c) => {
-            tell_refusal(err, c.left, c.right, "", refusal);
-            refusal_status(refusal)
-        }
-        Command::Replay(c) => {
-            let trace = c.trace;
-            tell_refusal(err, c.left, c.right, trace, refusal);
-            refusal_status(refusal)
-        }
-        Command::Verify(c) => {
-            let cert = c.cert;
-            tell_refusal(err, c.left, c.right, cert, refusal);
-            refusal_status(refusal)
-        }
-        Command::Reduce(r) => {
-            tell_refusal(err, r.net, "", "", refusal);
-            refusal_status(refusal)
-        }
-        Command::Demo(_) => {
-            tell_refusal(err, "", "", "", refusal);
-            refusal_status(refusal)
-        }
-        Command::Batch(b) => {
-            tell_refusal(err, "", "", b.list, refusal);
-            refusal_status(refusal)
-        }
-        Command::Climb(c) => {
-            tell_refusal(err, c.left, c.right, "", refusal);
-            refusal_status(refusal)
-        }
-    }
+    let FileNames { left, right, third } = file_names(command);
+    tell_refusal(err, left, right, third, refusal);
+    refusal_status(refusal)
 }
 
 // Does what a command asks for.

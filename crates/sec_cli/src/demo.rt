@@ -1,7 +1,8 @@
 // The answer of `demo`: the line of a demo pair, and the verdict of its two netlists.
-ghost use Rattle.std.specs.Prelude.{◌≤◌, ◌≡◌, false, IfOk, is_some};
+ghost use Rattle.std.specs.Prelude.{◌≤◌, ◌≡◌, ◌++◌, false, IfOk, is_some};
 ghost use Rattle.circ_model.specs.Meaning.{IsSoundPair};
 ghost use Rattle.demo_pair.specs.Demo.{IsDemo};
+ghost use Rattle.run_texts.specs.Lines.{demo_line};
 ghost use Rattle.command_line.specs.Asked.{IsDemoWithin, check_asked};
 ghost use Rattle.sec_cli.specs.Answers.{IsDemoAnswer, check_of_demo, is_refined};
 
@@ -47,6 +48,36 @@ fn check_of(d: &Demo) -> Check<'static>
     }
 }
 
+// The line of the demo of a size, and a text after it.
+fn headed(alloc: Global, n: u32, text: &[u8]) -> Result<Vec<u8>, AllocError>
+    requires { n ≤ 100000 }
+    ensures { IfOk result (λ both. both.items ≡ demo_line n ++ text.now) }
+{
+    let line = demo_line(alloc, n)?;
+    let mut both = Vec::from_slice(alloc, line.as_bytes())?;
+    both.extend_from_slice(text)?;
+    Ok(both)
+}
+
+// The line of a demo, and the verdict of this pair.
+fn demo_on<R: Threads + Wait + Sync, G: Gate>(
+    rt: &R,
+    alloc: Global,
+    product: &Product,
+    d: &Demo,
+    gate: &G,
+) -> Result<Answer, AllocError>
+    requires within { IsDemoWithin d.now }
+    requires demo { IsDemo d.now.n product.now.left product.now.right × (product.now.tied ≡ false) }
+    ensures answer { IfOk result (IsDemoAnswer d.now) }
+    ensures status { IfOk result (λ a. a.status ≤ 2) }
+    ensures journal { IfOk result (λ a. is_some a.journal ≡ is_refined a.status) }
+{
+    let mut answer = check_pair(rt, alloc, product, &check_of(d), gate)?;
+    answer.text = headed(alloc, d.n, answer.text.as_slice())?;
+    Ok(answer)
+}
+
 /// The line of the demo of a size, and the verdict of its pair.
 pub(crate) fn demo_answer<R: Threads + Wait + Sync, G: Gate>(
     rt: &R,
@@ -60,21 +91,5 @@ pub(crate) fn demo_answer<R: Threads + Wait + Sync, G: Gate>(
     ensures journal { IfOk result (λ a. is_some a.journal ≡ is_refined a.status) }
 {
     let product = demo_product(alloc, d.n)?;
-    let check = check_of(d);
-    let line = demo_line(alloc, d.n)?;
-    let mut text = Vec::from_slice(alloc, line.as_bytes())?;
-    let answer = check_pair(rt, alloc, &product, &check, gate)?;
-    text.extend_from_slice(answer.text.as_slice())?;
-    let Answer {
-        status,
-        file,
-        journal,
-        ..
-    } = answer;
-    Ok(Answer {
-        status,
-        text,
-        file,
-        journal,
-    })
+    demo_on(rt, alloc, &product, d, gate)
 }

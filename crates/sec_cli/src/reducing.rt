@@ -1,8 +1,9 @@
 // The answer of `reduce`: a netlist without its equal signals, and the line that counts what stays.
-ghost use Rattle.std.specs.Prelude.{◌≡◌, ◌≤◌, IsTrue, is_some, IfOk};
+ghost use Rattle.std.specs.Prelude.{◌≡◌, ◌≤◌, IsTrue, is_some, length, IfOk};
 ghost use Rattle.circ_model.specs.Meaning.{places_of};
-ghost use Rattle.class_partition.specs.Classes.{ArePartition, AreOfGreatest};
+ghost use Rattle.class_partition.specs.Classes.{ArePartition, AreOfGreatest, class_count};
 ghost use Rattle.command_line.specs.Asked.{reduce_asked, IsReduceWithin};
+ghost use Rattle.run_texts.specs.Lines.{reduced_line};
 ghost use Rattle.sec_cli.specs.Reductions.{IsJournalOfReduction, IsReduceAnswer, beside_stub, stored_as};
 
 use crate::ending::Answer;
@@ -44,6 +45,28 @@ fn file_of(alloc: Global, net: &Netlist, binary: bool) -> Result<Vec<u8>, AllocE
     }
 }
 
+// The line that counts what stays.
+fn text_of(
+    alloc: Global,
+    product: &Product,
+    r: &Reduce,
+    classes: &Classes,
+    less: &Netlist,
+) -> Result<Vec<u8>, AllocError>
+    requires places { length classes.now.least ≡ places_of product.now }
+    ensures { IfOk result (λ text. text.items ≡ reduced_line r.now.k (places_of product.now) (class_count (places_of product.now) classes.now) (length less.now.latches) (length less.now.gates)) }
+{
+    let line = reduced_line(
+        alloc,
+        r.k,
+        product.len(),
+        classes.count(),
+        less.latches().len(),
+        less.gates().len(),
+    )?;
+    Vec::from_slice(alloc, line.as_bytes())
+}
+
 // The answer by the classes of the greatest correspondence.
 fn answer_by(
     alloc: Global,
@@ -61,15 +84,7 @@ fn answer_by(
     ensures journal { IfOk result (λ a. IsTrue (is_some a.journal)) }
 {
     let less = reduce(alloc, product, r.k, classes)?;
-    let line = reduced_line(
-        alloc,
-        r.k,
-        product.len(),
-        classes.count(),
-        less.latches().len(),
-        less.gates().len(),
-    )?;
-    let text = Vec::from_slice(alloc, line.as_bytes())?;
+    let text = text_of(alloc, product, r, classes, &less)?;
     let file = file_of(alloc, &less, r.binary)?;
     Ok(Answer {
         status: 0,
