@@ -473,9 +473,9 @@ fn ends_at_greatest(
     rt: &impl Wait,
     alloc: Global,
     product: &Product,
+    greatest: &Classes,
     seed: u64,
 ) -> Result<bool, AllocError> {
-    let greatest = greatest_classes(alloc, product, 1)?;
     let first = Version::first(alloc, product, 1)?;
     let versions = Versions::new(alloc)?;
     let (version, same) = drawn_end::<Brand>(
@@ -487,13 +487,14 @@ fn ends_at_greatest(
         3,
         seed,
     )?;
-    Ok(same && same_classes(version.classes(), greatest.classes()))
+    Ok(same && same_classes(version.classes(), greatest))
 }
 
 // The same for four seeds.
 fn end_at_greatest(rt: &impl Wait, alloc: Global, product: &Product) -> Result<bool, AllocError> {
+    let greatest = greatest_classes(alloc, product, 1)?;
     for seed in 0..4u64 {
-        if !ends_at_greatest(rt, alloc, product, seed)? {
+        if !ends_at_greatest(rt, alloc, product, greatest.classes(), seed)? {
             return Ok(false);
         }
     }

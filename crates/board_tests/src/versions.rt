@@ -1,5 +1,5 @@
 //! The classes of worked pairs, and what proofs answer on the way to them.
-ghost use Rattle.std.specs.Prelude.{◌≡◌};
+ghost use Rattle.std.specs.Prelude.{◌≡◌, ◌<◌, ◌≤◌};
 
 use crate::circuits::{
     DELAY, LATCH_OF_PRODUCT, LATE_DELAY, LOW, PRODUCT_OF_LATCHES, RING, TOGGLE, TOGGLE_FROM_ONE,
@@ -27,61 +27,95 @@ fn table_of(classes: &Classes) -> [u32; 8] {
     least
 }
 
+// What a version is to be: how many splits it may have come from, its classes' number, and the least place of each place's.
+#[derive(Clone, Copy)]
+struct Due {
+    splits: u32,
+    count: u32,
+    least: [u32; 8],
+}
+
+// Whether a version of this k has these classes.
+fn has_classes(version: &Version<'_>, k: u32, due: Due) -> bool {
+    let classes = version.classes();
+    version.k() == k && classes.count() == due.count && table_of(classes) == due.least
+}
+
+// Whether the greatest classes of a pair are these, and come from so many splits at most.
+fn has_greatest(alloc: Global, product: &Product, k: u32, due: Due) -> Result<bool, AllocError>
+    requires { (0 < k) × (k ≤ 16) }
+{
+    let version = greatest_classes(alloc, product, k)?;
+    Ok(has_classes(&version, k, due) && version.number() <= due.splits)
+}
+
+fn are_greatest(
+    alloc: Global,
+    left: &str,
+    right: &str,
+    k: u32,
+    due: Due,
+) -> Result<bool, AllocError>
+    requires { (0 < k) × (k ≤ 16) }
+{
+    match pair_of(alloc, left, right) {
+        Ok(product) => has_greatest(alloc, &product, k, due),
+        Err(_) => Ok(false),
+    }
+}
+
+// A row of a table of classes.
+fn row_of(splits: u32, count: u32, least: [u32; 8]) -> Due {
+    Due {
+        splits,
+        count,
+        least,
+    }
+}
+
 #[test]
 fn pairs_have_these_classes(rt: HostRuntime) -> Result<(), Fail> {
-    let alloc = rt.alloc();
-    for (left, right, k, count, least) in [
-        (TOGGLE, TOGGLE, 1, 2, [0, 1, 1, 9, 9, 9, 9, 9]),
-        (TOGGLE, TOGGLE_FROM_ONE, 1, 2, [0, 1, 1, 9, 9, 9, 9, 9]),
-        (TOGGLE, LOW, 2, 2, [0, 1, 9, 9, 9, 9, 9, 9]),
-        // the ring needs three frames
-        (LOW, RING, 1, 5, [0, 1, 2, 3, 4, 9, 9, 9]),
-        (LOW, RING, 2, 5, [0, 1, 2, 3, 4, 9, 9, 9]),
-        (LOW, RING, 3, 4, [0, 1, 2, 3, 0, 9, 9, 9]),
-        (
-            PRODUCT_OF_LATCHES,
-            LATCH_OF_PRODUCT,
-            1,
-            7,
-            [0, 1, 2, 3, 4, 5, 5, 7],
-        ),
+    let toggles = row_of(1, 2, [0, 1, 1, 9, 9, 9, 9, 9]);
+    let low = row_of(1, 2, [0, 1, 9, 9, 9, 9, 9, 9]);
+    // the ring needs three frames
+    let ring = row_of(4, 5, [0, 1, 2, 3, 4, 9, 9, 9]);
+    let whole_ring = row_of(3, 4, [0, 1, 2, 3, 0, 9, 9, 9]);
+    let product = row_of(6, 7, [0, 1, 2, 3, 4, 5, 5, 7]);
+    for (left, right, k, due) in [
+        (TOGGLE, TOGGLE, 1, toggles),
+        (TOGGLE, TOGGLE_FROM_ONE, 1, toggles),
+        (TOGGLE, LOW, 2, low),
+        (LOW, RING, 1, ring),
+        (LOW, RING, 2, ring),
+        (LOW, RING, 3, whole_ring),
+        (PRODUCT_OF_LATCHES, LATCH_OF_PRODUCT, 1, product),
     ] {
-        match pair_of(alloc, left, right) {
-            Ok(product) => {
-                let version = greatest_classes(alloc, &product, k)?;
-                assert!(rt;
-                    table_of(version.classes()) == least && version.classes().count() == count
-                );
-                assert!(rt; version.number() < count && version.k() == k);
-            }
-            Err(_) => assert!(rt; false),
-        }
+        assert!(rt; k > 0 && k <= 16 && are_greatest(rt.alloc(), left, right, k, due)?);
     }
     Ok(())
+}
+
+// Whether a pair opens on these classes, after so many splits.
+fn opens_on(alloc: Global, product: &Product, due: Due) -> Result<bool, AllocError> {
+    let version = Version::opening(alloc, product, 1)?;
+    Ok(has_classes(&version, 1, due) && version.number() == due.splits)
 }
 
 #[test]
 fn openings_tell_apart_what_the_first_frames_do(rt: HostRuntime) -> Result<(), Fail> {
     let alloc = rt.alloc();
-    for (left, right, number, count, least) in [
-        (TOGGLE, TOGGLE, 1, 2, [0, 1, 1, 9, 9, 9, 9, 9]),
-        (LOW, RING, 2, 4, [0, 1, 2, 3, 0, 9, 9, 9]),
+    for (left, right, due) in [
+        (TOGGLE, TOGGLE, row_of(1, 2, [0, 1, 1, 9, 9, 9, 9, 9])),
+        (LOW, RING, row_of(2, 4, [0, 1, 2, 3, 0, 9, 9, 9])),
         // frame 0 tells the inputs and their product apart, and frame 1 the latches
         (
             PRODUCT_OF_LATCHES,
             LATCH_OF_PRODUCT,
-            2,
-            7,
-            [0, 1, 2, 3, 4, 5, 5, 7],
+            row_of(2, 7, [0, 1, 2, 3, 4, 5, 5, 7]),
         ),
     ] {
         match pair_of(alloc, left, right) {
-            Ok(product) => {
-                let version = Version::opening(alloc, &product, 1)?;
-                let classes = version.classes();
-                assert!(rt; table_of(classes) == least && classes.count() == count);
-                assert!(rt; version.number() == number && version.k() == 1);
-            }
+            Ok(product) => assert!(rt; opens_on(alloc, &product, due)?),
             Err(_) => assert!(rt; false),
         }
     }

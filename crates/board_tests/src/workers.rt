@@ -3,11 +3,14 @@ ghost use Rattle.std.specs.Prelude.{◌≡◌, ◌≤◌, ◌<◌, IfOk};
 
 use crate::circuits::{DELAY, LATE_DELAY, pair_of};
 use meeting_gate::Meeting;
+use product_machine::Product;
 use refine_board::{Journal, Step};
 use sec_base::FreeGate;
 use split_workers::{Refined, WorkReport, refine, reports_of};
 use std::alloc::{AllocError, Global};
+use std::sync::Wait;
 use std::test::Fail;
+use std::thread::Threads;
 
 // How many entries of a journal are ends of a worker.
 fn ends_of(journal: &Journal, worker: u32) -> u64 {
@@ -57,6 +60,29 @@ fn two_workers_meet(rt: HostRuntime) -> Result<(), Fail> {
     Ok(())
 }
 
+// Whether a run ended at these classes, and each of so many workers once.
+fn has_ended(run: &Refined<'_>, workers: u32) -> bool {
+    for worker in 0..workers {
+        if ends_of(&run.journal, worker) != 1 {
+            return false;
+        }
+    }
+    run.version.classes().count() == 9
+}
+
+// Whether a run of so many workers ends so.
+fn ends_so<R: Threads + Wait + Sync>(
+    rt: &R,
+    alloc: Global,
+    product: &Product,
+    workers: u32,
+) -> Result<bool, AllocError>
+    requires { (0 < workers) × (workers ≤ 64) }
+{
+    let run = refine(rt, alloc, product, 1, workers, &FreeGate)?;
+    Ok(has_ended(&run, workers))
+}
+
 #[test]
 fn any_number_of_workers_ends_at_the_same_classes(rt: HostRuntime) -> Result<(), Fail> {
     let alloc = rt.alloc();
@@ -65,30 +91,42 @@ fn any_number_of_workers_ends_at_the_same_classes(rt: HostRuntime) -> Result<(),
         return Ok(());
     };
     for workers in [1u32, 2, 7, 64] {
-        let run = refine(&rt, alloc, &product, 1, workers, &FreeGate)?;
-        assert!(rt; run.version.classes().count() == 9);
-        for worker in 0..workers {
-            assert!(rt; ends_of(&run.journal, worker) == 1);
-        }
+        assert!(rt; ends_so(&rt, alloc, &product, workers)?);
     }
     Ok(())
+}
+
+// Whether the reports are of the workers in their order, each ended once, and count all entries.
+fn count_all(reports: &[WorkReport], journal: &Journal) -> bool {
+    let mut entries: u64 = 0;
+    let mut worker: u32 = 0;
+    for report in reports {
+        if report.worker != worker || report.done != 1 || report.foreign != 0 {
+            return false;
+        }
+        entries = entries.saturating_add(entries_in(report));
+        worker = worker.saturating_add(1);
+    }
+    entries == journal.len()
+}
+
+// Whether those of a run of three do.
+fn are_counted<R: Threads + Wait + Sync>(
+    rt: &R,
+    alloc: Global,
+    product: &Product,
+) -> Result<bool, AllocError> {
+    let run = refine(rt, alloc, product, 1, 3, &FreeGate)?;
+    let reports = reports_of(alloc, &run.journal, 3)?;
+    Ok(reports.len() == 3 && count_all(reports.as_slice(), &run.journal))
 }
 
 #[test]
 fn reports_count_the_calls_of_each_worker(rt: HostRuntime) -> Result<(), Fail> {
     let alloc = rt.alloc();
-    let Ok(product) = pair_of(alloc, DELAY, LATE_DELAY) else {
-        assert!(rt; false);
-        return Ok(());
-    };
-    let run = refine(&rt, alloc, &product, 1, 3, &FreeGate)?;
-    let reports = reports_of(alloc, &run.journal, 3)?;
-    assert!(rt; reports.len() == 3);
-    let mut entries: u64 = 0;
-    for (worker, report) in (0..3u32).zip(reports.iter()) {
-        assert!(rt; report.worker == worker && report.done == 1 && report.foreign == 0);
-        entries = entries.saturating_add(entries_in(report));
+    match pair_of(alloc, DELAY, LATE_DELAY) {
+        Ok(product) => assert!(rt; are_counted(&rt, alloc, &product)?),
+        Err(_) => assert!(rt; false),
     }
-    assert!(rt; entries == run.journal.len());
     Ok(())
 }
