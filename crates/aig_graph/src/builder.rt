@@ -1,4 +1,4 @@
-ghost use Rattle.std.specs.Prelude.{◌≡◌, ◌≤◌, ◌<◌, ◌*◌, [], IfOk, length};
+ghost use Rattle.std.specs.Prelude.{◌≡◌, ◌≤◌, ◌<◌, ◌*◌, [], IfOk, Some, length};
 ghost use Rattle.aig_graph.specs.Finish.{Finishes};
 ghost use Rattle.aig_graph.specs.Given.{Adds, with_input, with_latch, with_output, with_gate, reset_of};
 
@@ -39,15 +39,27 @@ fn reset_from(var: u32, reset: Lit) -> Option<Reset>
     ensures { result ≡ reset_of var reset }
 {
     if reset.var() == 0 {
-        Some(if reset.is_complement() {
+        Some(if reset.complement() {
             Reset::One
         } else {
             Reset::Zero
         })
-    } else if reset.var() == var && !reset.is_complement() {
+    } else if reset.var() == var && !reset.complement() {
         Some(Reset::Free)
     } else {
         None
+    }
+}
+
+/// The literal that gives this reset to the latch of a variable, as `latch` takes it.
+pub fn reset_literal(var: u32, reset: Reset) -> Lit
+    requires few { var ≤ 1000000 }
+    ensures { 0 < var → reset_of var result ≡ Some reset }
+{
+    match reset {
+        Reset::Zero => Lit::of(0, false),
+        Reset::One => Lit::of(0, true),
+        Reset::Free => Lit::of(var, false),
     }
 }
 

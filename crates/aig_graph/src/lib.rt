@@ -10,6 +10,6 @@ mod netlist;
 mod order;
 mod undefined;
 
-pub use builder::NetBuilder;
+pub use builder::{NetBuilder, reset_literal};
 pub use fault::BuildFault;
-pub use netlist::Netlist;
+pub use netlist::{Netlist, literal_bit};

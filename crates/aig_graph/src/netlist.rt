@@ -1,5 +1,5 @@
 ghost use Rattle.std.specs.Prelude.{◌≡◌, ◌<◌, ◌≤◌, ◌+◌, ◌*◌, ◌/◌, ◌%◌, ℕ, List, Bool, false, length, slice_index, slice_index_or, Contains};
-ghost use Rattle.circ_model.specs.Netlist.{variables, IsSound, IsDefined};
+ghost use Rattle.circ_model.specs.Netlist.{own, variables, IsSound, IsDefined};
 ghost use Rattle.circ_model.specs.Meaning.{bit, literal_value, product, value};
 ghost use Rattle.aig_graph.specs.Eval.{leaves_in, HasValues, IsEvaluated};
 ghost use Rattle.aig_graph.specs.Levels.{IsLevelOf, IsHeld};
@@ -32,13 +32,13 @@ impl Model for Netlist {
     ghost invariant = { λ n. IsHeld (record { max_var = n.max_var; inputs = n.inputs.items; latches = n.latches.items; outputs = n.outputs.items; gates = n.gates.items }) n.levels.items };
 }
 
-// The value of a literal in a row with a bit for each variable.
-fn literal_bit(row: &BitRow, lit: Lit) -> bool
+/// The value of a literal in a row with a bit for each variable, or for each place of a pair.
+pub fn literal_bit(row: &BitRow, lit: Lit) -> bool
     requires { lit / 2 < length row.now }
     ensures { result ≡ literal_value (bit row.now) lit }
 {
     let plain = row.get(lit.var());
-    if lit.is_complement() { !plain } else { plain }
+    if lit.complement() { !plain } else { plain }
 }
 
 // The product of a gate's literals.
@@ -109,6 +109,44 @@ impl Netlist {
         ensures { result.now ≡ self.entry.now.gates }
     {
         self.gates.as_slice()
+    }
+
+    /// The number of latches and gates.
+    pub fn own_count(&self) -> u32
+        ensures count { result ≡ length (own self.now) }
+        ensures few { result ≤ 1000001 }
+    {
+        let _sound = self.inputs();
+        self.latches().len() as u32 + self.gates().len() as u32
+    }
+
+    /// The number of variables: the constant, the inputs, the latches and the gates.
+    pub fn variable_count(&self) -> u32
+        ensures count { result ≡ length (variables self.now) }
+        ensures few { result ≤ 1000001 }
+    {
+        1 + self.inputs().len() as u32 + self.own_count()
+    }
+
+    /// The variable at a place of that list: the constant, the inputs, the latches and the gates, in their orders.
+    pub fn variable_at(&self, place: u32) -> u32
+        requires { place < length (variables self.now) }
+        ensures { result ≡ slice_index (variables self.now) place }
+    {
+        if place == 0 {
+            return 0;
+        }
+        let inputs = self.inputs();
+        let i = place as usize - 1;
+        if i < inputs.len() {
+            return inputs[i];
+        }
+        let latches = self.latches();
+        let k = i - inputs.len();
+        if k < latches.len() {
+            return latches[k].var;
+        }
+        self.gates()[k - latches.len()].var
     }
 
     /// The level of a variable: 0 for the constant, an input or a latch, and for a gate one more than the greater level of what it multiplies.

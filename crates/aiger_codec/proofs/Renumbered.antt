@@ -13,30 +13,6 @@ use Rattle.circ_model.proofs.Order.{gate_variable, length_variables}
 use Rattle.circ_model.proofs.Rows.{length_leaves}
 use Rattle.aiger_codec.specs.Renumbering.{IsNumbering}
 
--- ---- how many variables there are
-
-below : (q n : ℕ) (xs : List ℕ) → ((i : ℕ) → i < length xs → get_or xs i 0 < n) → list_any (λ x. q == x) xs ≡ true → q < n
-below q n [] each h = absurd (let f : ⊥ = cc in f)
-below q n (x ∷ xs) each h =
-    ⊎_elim (λ (e : (q == x) ≡ true). let s = eqb-true q x e in let l = each 0 (omega arith) in let r : q < n = omega arith in r)
-    (λ (e : list_any (λ y. q == y) xs ≡ true). below q n xs (λ i lt. each (suc i) (omega arith)) e)
-    (or_cases (q == x) (list_any (λ y. q == y) xs) h)
-
-pub few_variables : (net : Netlist) → IsSound net → length (variables net) ≤ net.max_var + 1
-few_variables net sound =
-    length-le_from_distinct_below (variables net) (net.max_var + 1) (IsDistinct-from_AllPairs Decides-eqb (variables net) sound.once)
-    (λ q h. below q (net.max_var + 1) (variables net) (λ i lt. let a = sound.in_range i 0 lt in omega arith) h)
-
-pub count_variables : (net : Netlist) → length (variables net) ≡ 1 + length net.inputs + length net.latches + length net.gates
-count_variables net = omega (arith, length_variables net, length_leaves net)
-
--- ---- the table
-
-pub last_variable : (net : Netlist) (gates : List Gate) (g : Gate) (q k : ℕ) → gates ≡ net.gates → q ≡ 1 + length net.inputs + length net.latches + k → k < length gates → (get_or gates k g).var ≡ get_or (variables net) q 0
-last_variable net gates g q k e at lt =
-    ap (λ (h : Gate). h.var) (get_or_default gates k g no_gate lt ∙ ap (λ (gs : List Gate). get_or gs k no_gate) e)
-    ∙ sym (gate_variable net k q (let s = ap length e in omega arith) (omega (arith, length_leaves net)))
-
 -- one variable more
 pub numbering_more : (net : Netlist) (q : ℕ) (table : List ℕ) → IsSound net → q < length (variables net) → q < 2147483648 → IsNumbering net q table → IsNumbering net (q + 1) (set table (get_or (variables net) q 0) q)
 numbering_more net q table sound lt low h = record {

@@ -88,7 +88,7 @@ fn push_gate(gate: Gate, into: &mut Vec<u8>) -> Result<(), AllocError>
 fn number_of(lit: Lit) -> u64
     ensures { result ≡ lit }
 {
-    2 * lit.var() as u64 + lit.is_complement() as u64
+    2 * lit.var() as u64 + lit.complement() as u64
 }
 
 // A line of a number and others.

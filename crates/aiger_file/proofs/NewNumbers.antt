@@ -13,7 +13,7 @@ use Rattle.circ_model.proofs.Literals.{half_literal}
 use Rattle.circ_model.proofs.Order.{leaf_variable, gate_variable, length_variables, place_of_variable}
 use Rattle.circ_model.proofs.Rows.{length_leaves}
 use Rattle.aiger_codec.specs.Renumbering.{latch_by, gate_by, renumbered}
-use Rattle.aiger_codec.proofs.Renumbered.{few_variables, count_variables}
+use Rattle.circ_model.proofs.Counting.{few_variables, count_variables}
 use Rattle.aiger_codec.proofs.Numbering.{no_latch, latch_variable}
 use Rattle.aiger_file.proofs.InTurn.{in_turn, range_append, all_mapped, both, swapped}
 

@@ -20,7 +20,7 @@ use Rattle.aiger_codec.specs.Renumbering.{latch_by, gate_by, renumbered}
 use Rattle.aiger_codec.specs.BinaryWriting.{next_text, deltas_text, binary_text}
 use Rattle.aiger_codec.proofs.DeltaLaws.{shortest_spelled}
 use Rattle.aiger_codec.proofs.WrittenLines.{line_spelled}
-use Rattle.aiger_codec.proofs.Renumbered.{few_variables, count_variables}
+use Rattle.circ_model.proofs.Counting.{few_variables, count_variables}
 use Rattle.aiger_codec.proofs.Numbering.{no_latch, low_literal, max_less}
 use Rattle.aiger_codec.proofs.BinaryWritten.{counts_of, same_counts}
 use Rattle.aiger_binary.specs.Grammar.{SpellsEach, SpellsLatch, SpellsGate, SpellsBinary}

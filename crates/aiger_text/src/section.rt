@@ -31,7 +31,7 @@ fn add(
     if let Section::Outputs = section {
         return builder.output(first);
     }
-    if first.is_complement() {
+    if first.complement() {
         return Err(BuildFault::Literal);
     }
     let second = literal(numbers, count, 1);

@@ -1,6 +1,6 @@
 //! A row of bits, packed in words of 64. Bit `i` is bit `i % 64` of word `i / 64`; what the last word has past
 //! the row's end means nothing.
-ghost use Rattle.std.specs.Prelude.{◌≡◌, ◌<◌, ◌≢◌, ◌==◌, ℕ, false, length, slice_index_or, slice_set, replicate, IfOk};
+ghost use Rattle.std.specs.Prelude.{◌≡◌, ◌<◌, ◌≤◌, ◌+◌, ◌≢◌, ◌==◌, ℕ, false, length, slice_index_or, slice_set, replicate, IfOk};
 ghost use Rattle.std.specs.Int.{bit_at};
 
 use std::alloc::{AllocError, Global};
@@ -69,6 +69,21 @@ impl BitRow {
         self.words
             .as_mut_slice()
             .copy_from_slice(other.words.as_slice());
+    }
+
+    /// Writes `count` bits from bit `start` on: those of another row from its bit `at` on.
+    pub fn copy_bits(&mut self, start: u32, from: &BitRow, at: u32, count: u32)
+        requires target { start + count ≤ length self.old }
+        requires source { at + count ≤ length from.now }
+        ensures size { length self.new ≡ length self.old }
+        ensures copied { (k : ℕ) → k < count → slice_index_or self.new (start + k) false ≡ slice_index_or from.now (at + k) false }
+        ensures below { (k : ℕ) → k < start → slice_index_or self.new k false ≡ slice_index_or self.old k false }
+        ensures above { (k : ℕ) → start + count ≤ k → slice_index_or self.new k false ≡ slice_index_or self.old k false }
+    {
+        let _lengths = (self.len(), from.len());
+        for k in 0..count {
+            self.set(start + k, from.get(at + k));
+        }
     }
 }
 

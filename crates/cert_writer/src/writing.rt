@@ -62,22 +62,6 @@ fn push_head(product: &Product, k: u32, text: &mut Vec<u8>) -> Result<(), AllocE
     Ok(())
 }
 
-// The literals of a place and its class's least place, at their relative phase.
-fn literals_of(classes: &Classes, place: u32) -> (Lit, Lit)
-    requires place { place < length classes.now.least }
-    requires few { length classes.now.least < 2147483648 }
-    ensures { result ≡ needed classes.now place }
-{
-    let _places = classes.len();
-    let rep = classes.rep(place);
-    let sign = if classes.phase(rep) {
-        !classes.phase(place)
-    } else {
-        classes.phase(place)
-    };
-    (Lit::of(rep, false), Lit::of(place, sign))
-}
-
 // What is certified, with the frames of the two questions: k from reset, and k + 1 in all but the last of which the classes
 // hold. Beside them the numbers of clauses that they have with a question.
 #[derive(Drop)]
@@ -270,7 +254,7 @@ fn base_log(
     ensures trimmed { IfOk result (IsTrimmed (length (base_formula frames.now.pair frames.now.k frames.now.classes place).clauses)) }
 {
     let _places = frames.product.len();
-    let (a, b) = literals_of(frames.classes, place);
+    let (a, b) = frames.classes.needed(place);
     let k = frames.k;
     match frames.base.find_in(alloc, work, a, b, 0, k - 1)? {
         Found::None(log) => trim(alloc, frames.base_clauses, log),
@@ -290,7 +274,7 @@ fn step_log(
     ensures trimmed { IfOk result (IsTrimmed (length (step_formula frames.now.pair frames.now.k frames.now.classes place).clauses)) }
 {
     let _places = frames.product.len();
-    let (a, b) = literals_of(frames.classes, place);
+    let (a, b) = frames.classes.needed(place);
     let k = frames.k;
     match frames.step.find_in(alloc, work, a, b, k, k)? {
         Found::None(log) => trim(alloc, frames.step_clauses, log),
@@ -387,7 +371,7 @@ fn last_log(
     ensures asked { IfOk result (λ log. work.new.asked ≡ work.old.asked) }
 {
     let _places = frames.product.len();
-    let (a, b) = literals_of(frames.classes, place);
+    let (a, b) = frames.classes.needed(place);
     match derived_log(alloc, work, frames, place, a, b)? {
         Some(log) => trim(alloc, frames.step_clauses, log),
         None => step_log(alloc, &mut work.step, frames, place),

@@ -1,5 +1,5 @@
 ghost use Rattle.std.specs.Prelude.{◌≡◌, ◌<◌, ◌≤◌, ◌+◌, ◌/◌, ◌↔◌, ℕ, IsTrue, length, IfOk, OnOk, OnErr};
-ghost use Rattle.class_partition.specs.Classes.{least_of, phase_of, ArePartition, AreTogether, Pairs, IsSplit, one_class, class_count, split_of, HoldIn, IsNextNeeded};
+ghost use Rattle.class_partition.specs.Classes.{least_of, phase_of, ArePartition, AreTogether, Pairs, IsSplit, one_class, class_count, split_of, HoldIn, IsNextNeeded, needed};
 ghost use Rattle.class_partition.specs.Steps.{classes_of};
 ghost use Rattle.class_partition.specs.Words.{bits_of, rows_of, IsSplitByWords, split_of_words, splits_of};
 
@@ -119,9 +119,26 @@ impl Classes {
         requires b { b / 2 < length self.now.least }
         ensures { IsTrue result ↔ Pairs self.now a b }
     {
-        let left = self.phase.get(a.var()) != a.is_complement();
-        let right = self.phase.get(b.var()) != b.is_complement();
+        let left = self.phase.get(a.var()) != a.complement();
+        let right = self.phase.get(b.var()) != b.complement();
         self.same(a.var(), b.var()) && left == right
+    }
+
+    /// The literals of a place and of its class's least place, that one first, at their relative phase: what has to be equal
+    /// for the place to be where it is.
+    pub fn needed(&self, member: u32) -> (Lit, Lit)
+        requires place { member < length self.now.least }
+        requires few { length self.now.least < 2147483648 }
+        ensures { result ≡ needed self.now member }
+    {
+        let _places = self.len();
+        let rep = self.rep(member);
+        let sign = if self.phase(rep) {
+            !self.phase(member)
+        } else {
+            self.phase(member)
+        };
+        (Lit::of(rep, false), Lit::of(member, sign))
     }
 
     /// The number of classes.

@@ -2,12 +2,11 @@
 // literal of theirs.
 ghost use Rattle.std.specs.Prelude.{◌≡◌, ◌≤◌, ◌<◌, ◌+◌, ◌++◌, ◌∷◌, [], length, map, All, Some, OnOk, IfOk};
 ghost use Rattle.aig_graph.specs.Finish.{IsFinished};
-ghost use Rattle.aig_graph.specs.Given.{reset_of};
 ghost use Rattle.demo_pair.specs.Demo.{is_chosen, negated_if, turned, reset_if, copied_latch, copied_gate, copied};
 
-use aig_graph::{NetBuilder, Netlist};
+use aig_graph::{BuildFault, NetBuilder, Netlist, reset_literal};
 use circ_model::{Gate, Latch, Lit, Reset};
-use std::alloc::{AllocError, Global};
+use std::alloc::Global;
 
 // Whether the variable is that of a chosen latch.
 fn is_chosen(n: u32, chosen: &[bool], var: u32) -> bool
@@ -47,26 +46,11 @@ fn reset_if(other: bool, reset: Reset) -> Reset
     }
 }
 
-// The reset literal of a latch.
-fn reset_literal(var: u32, reset: Reset) -> Lit
-    requires few { var ≤ 1000000 }
-    ensures { 0 < var → reset_of var result ≡ Some reset }
-{
-    match reset {
-        Reset::Zero => Lit::of(0, false),
-        Reset::One => Lit::of(0, true),
-        Reset::Free => Lit::of(var, false),
-    }
-}
-
-fn copy_inputs(inputs: &[u32], builder: &mut NetBuilder) -> Result<(), AllocError>
+fn copy_inputs(inputs: &[u32], builder: &mut NetBuilder) -> Result<(), BuildFault>
     ensures { OnOk result (builder.new ≡ record builder.old { inputs = builder.old.inputs ++ inputs.now }) }
 {
     for i in 0..inputs.len() {
-        match builder.input(inputs[i]) {
-            Ok(()) => {}
-            Err(_) => return Err(AllocError),
-        }
+        builder.input(inputs[i])?;
     }
     Ok(())
 }
@@ -76,7 +60,7 @@ fn copy_latch(
     chosen: &[bool],
     latch: Latch,
     builder: &mut NetBuilder,
-) -> Result<(), AllocError>
+) -> Result<(), BuildFault>
     requires size { n ≤ 100000 }
     requires few { latch.var ≤ 1000000 }
     ensures { OnOk result (builder.new ≡ record builder.old { latches = builder.old.latches ++ copied_latch n chosen.now latch ∷ [] }) }
@@ -84,10 +68,7 @@ fn copy_latch(
     let own = is_chosen(n, chosen, latch.var);
     let next = negated_if(own, turned(n, chosen, latch.next));
     let reset = reset_literal(latch.var, reset_if(own, latch.reset));
-    match builder.latch(latch.var, next, reset) {
-        Ok(()) => Ok(()),
-        Err(_) => Err(AllocError),
-    }
+    builder.latch(latch.var, next, reset)
 }
 
 fn copy_latches(
@@ -95,7 +76,7 @@ fn copy_latches(
     chosen: &[bool],
     latches: &[Latch],
     builder: &mut NetBuilder,
-) -> Result<(), AllocError>
+) -> Result<(), BuildFault>
     requires size { n ≤ 100000 }
     requires few { All (λ l. l.var ≤ 1000000) latches.now }
     ensures { OnOk result (builder.new ≡ record builder.old { latches = builder.old.latches ++ map (copied_latch n chosen.now) latches.now }) }
@@ -111,16 +92,13 @@ fn copy_outputs(
     chosen: &[bool],
     outputs: &[Lit],
     builder: &mut NetBuilder,
-) -> Result<(), AllocError>
+) -> Result<(), BuildFault>
     requires size { n ≤ 100000 }
     requires room { length builder.old.outputs + length outputs.now ≤ 1000000 }
     ensures { OnOk result (builder.new ≡ record builder.old { outputs = builder.old.outputs ++ map (turned n chosen.now) outputs.now }) }
 {
     for i in 0..outputs.len() {
-        match builder.output(turned(n, chosen, outputs[i])) {
-            Ok(()) => {}
-            Err(_) => return Err(AllocError),
-        }
+        builder.output(turned(n, chosen, outputs[i]))?;
     }
     Ok(())
 }
@@ -130,29 +108,16 @@ fn copy_gates(
     chosen: &[bool],
     gates: &[Gate],
     builder: &mut NetBuilder,
-) -> Result<(), AllocError>
+) -> Result<(), BuildFault>
     requires size { n ≤ 100000 }
     ensures { OnOk result (builder.new ≡ record builder.old { gates = builder.old.gates ++ map (copied_gate n chosen.now) gates.now }) }
 {
     for i in 0..gates.len() {
         let left = turned(n, chosen, gates[i].left);
         let right = turned(n, chosen, gates[i].right);
-        match builder.gate(gates[i].var, left, right) {
-            Ok(()) => {}
-            Err(_) => return Err(AllocError),
-        }
+        builder.gate(gates[i].var, left, right)?;
     }
     Ok(())
-}
-
-// The netlist of what a builder was given.
-pub(crate) fn finished(alloc: Global, builder: NetBuilder) -> Result<Netlist, AllocError>
-    ensures { IfOk result (λ net. IsFinished builder net) }
-{
-    match builder.finish(alloc) {
-        Ok(net) => Ok(net),
-        Err(_) => Err(AllocError),
-    }
 }
 
 // The copy of a netlist in which the chosen latches are complemented.
@@ -161,7 +126,7 @@ pub(crate) fn copy_of(
     n: u32,
     chosen: &[bool],
     left: &Netlist,
-) -> Result<Netlist, AllocError>
+) -> Result<Netlist, BuildFault>
     requires size { n ≤ 100000 }
     ensures { IfOk result (λ net. IsFinished (copied n chosen.now left.now) net) }
 {
@@ -170,5 +135,6 @@ pub(crate) fn copy_of(
     copy_latches(n, chosen, left.latches(), &mut builder)?;
     copy_outputs(n, chosen, left.outputs(), &mut builder)?;
     copy_gates(n, chosen, left.gates(), &mut builder)?;
-    finished(alloc, builder)
+    let copy = builder.finish(alloc)?;
+    Ok(copy)
 }

@@ -6,8 +6,8 @@ ghost use Rattle.rand_pcg.specs.Lcg.{Lcg};
 ghost use Rattle.rand_pcg.specs.Pcg.{pcg32_of_seed};
 ghost use Rattle.demo_pair.specs.Demo.{drawn, drawn_literal, choices, input_made, gate_made, latch_made, output_made, made_reset, each, circuit, IsDemo};
 
-use crate::copying::{copy_of, finished};
-use aig_graph::{NetBuilder, Netlist};
+use crate::copying::copy_of;
+use aig_graph::{BuildFault, NetBuilder, Netlist};
 use circ_model::Lit;
 use rand_core::SeedableRng;
 use rand_core::utils::NextWord;
@@ -45,15 +45,12 @@ pub(crate) fn literal_of(number: u32) -> Lit
 }
 
 // The inputs, which draw nothing.
-fn make_inputs(count: u32, builder: &mut NetBuilder) -> Result<(), AllocError>
+fn make_inputs(count: u32, builder: &mut NetBuilder) -> Result<(), BuildFault>
     requires { count ≤ 1000000 }
     ensures { OnOk result ((g : Lcg) → (builder.new, g) ≡ each input_made count 1 (builder.old, g)) }
 {
     for i in 0..count {
-        match builder.input(1 + i) {
-            Ok(()) => {}
-            Err(_) => return Err(AllocError),
-        }
+        builder.input(1 + i)?;
     }
     Ok(())
 }
@@ -64,7 +61,7 @@ fn make_gate(
     var: u32,
     generator: &mut Lcg64Xsh32,
     builder: &mut NetBuilder,
-) -> Result<(), AllocError>
+) -> Result<(), BuildFault>
     requires some { 1 < var }
     requires few { var ≤ 1000000 }
     ensures { OnOk result ((builder.new, generator.new) ≡ gate_made var (builder.old, generator.old)) }
@@ -73,10 +70,7 @@ fn make_gate(
     let second = draw_literal(generator, var - 1);
     let left = literal_of(first.max(second));
     let right = literal_of(first.min(second));
-    match builder.gate(var, left, right) {
-        Ok(()) => Ok(()),
-        Err(_) => Err(AllocError),
-    }
+    builder.gate(var, left, right)
 }
 
 fn make_gates(
@@ -84,7 +78,7 @@ fn make_gates(
     first: u32,
     generator: &mut Lcg64Xsh32,
     builder: &mut NetBuilder,
-) -> Result<(), AllocError>
+) -> Result<(), BuildFault>
     requires some { 0 < count → 1 < first }
     requires few { first + count ≤ 1000000 }
     ensures { OnOk result ((builder.new, generator.new) ≡ each gate_made count first (builder.old, generator.old)) }
@@ -102,17 +96,14 @@ fn make_latch(
     var: u32,
     generator: &mut Lcg64Xsh32,
     builder: &mut NetBuilder,
-) -> Result<(), AllocError>
+) -> Result<(), BuildFault>
     requires some { 0 < variables }
     requires few { variables ≤ 1000000 }
     ensures { OnOk result ((builder.new, generator.new) ≡ latch_made variables var (builder.old, generator.old)) }
 {
     let next = literal_of(draw_literal(generator, variables));
     let reset = Lit::of(0, draw(generator, 2) == 1);
-    match builder.latch(var, next, reset) {
-        Ok(()) => Ok(()),
-        Err(_) => Err(AllocError),
-    }
+    builder.latch(var, next, reset)
 }
 
 fn make_latches(
@@ -121,7 +112,7 @@ fn make_latches(
     first: u32,
     generator: &mut Lcg64Xsh32,
     builder: &mut NetBuilder,
-) -> Result<(), AllocError>
+) -> Result<(), BuildFault>
     requires some { 0 < count → 0 < variables }
     requires few { variables ≤ 1000000 }
     requires room { first + count ≤ 1000000 }
@@ -138,17 +129,14 @@ fn make_output(
     variables: u32,
     generator: &mut Lcg64Xsh32,
     builder: &mut NetBuilder,
-) -> Result<(), AllocError>
+) -> Result<(), BuildFault>
     requires some { 0 < variables }
     requires few { variables ≤ 1000000 }
     requires room { length builder.old.outputs < 1000000 }
     ensures made { OnOk result ((j : ℕ) → (builder.new, generator.new) ≡ output_made variables j (builder.old, generator.old)) }
 {
     let lit = literal_of(draw_literal(generator, variables));
-    match builder.output(lit) {
-        Ok(()) => Ok(()),
-        Err(_) => Err(AllocError),
-    }
+    builder.output(lit)
 }
 
 fn make_outputs(
@@ -156,7 +144,7 @@ fn make_outputs(
     count: u32,
     generator: &mut Lcg64Xsh32,
     builder: &mut NetBuilder,
-) -> Result<(), AllocError>
+) -> Result<(), BuildFault>
     requires some { 0 < count → 0 < variables }
     requires few { variables ≤ 1000000 }
     requires room { length builder.old.outputs + count ≤ 1000000 }
@@ -170,7 +158,7 @@ fn make_outputs(
 
 // The left netlist, as it is given to a builder.
 #[tactic(auto, unfolding(crate::specs::Demo::circuit))]
-fn make_left(alloc: Global, n: u32, generator: &mut Lcg64Xsh32) -> Result<NetBuilder, AllocError>
+fn make_left(alloc: Global, n: u32, generator: &mut Lcg64Xsh32) -> Result<NetBuilder, BuildFault>
     requires few { n ≤ 100000 }
     requires fresh { generator.old ≡ pcg32_of_seed (pcg32_seed 16 n) }
     ensures { IfOk result (λ b. (b, generator.new) ≡ circuit n) }
@@ -195,15 +183,23 @@ fn choose(alloc: Global, count: u32, generator: &mut Lcg64Xsh32) -> Result<Vec<b
     Ok(chosen)
 }
 
-/// The demo pair of a size: n inputs, n latches, 6 n gates and n outputs on each side.
-pub fn make_demo(alloc: Global, n: u32) -> Result<(Netlist, Netlist), AllocError>
+// Both netlists of a size.
+fn made(alloc: Global, n: u32) -> Result<(Netlist, Netlist), BuildFault>
     requires { n ≤ 100000 }
     ensures { IfOk result (λ p. IsDemo n p.0 p.1) }
 {
     let mut generator = Lcg64Xsh32::seed_from_u64(n as u64);
     let builder = make_left(alloc, n, &mut generator)?;
     let chosen = choose(alloc, n, &mut generator)?;
-    let left = finished(alloc, builder)?;
+    let left = builder.finish(alloc)?;
     let right = copy_of(alloc, n, chosen.as_slice(), &left)?;
     Ok((left, right))
+}
+
+/// The demo pair of a size: n inputs, n latches, 6 n gates and n outputs on each side.
+pub fn make_demo(alloc: Global, n: u32) -> Result<(Netlist, Netlist), AllocError>
+    requires { n ≤ 100000 }
+    ensures { IfOk result (λ p. IsDemo n p.0 p.1) }
+{
+    made(alloc, n).map_err(|_| AllocError)
 }

@@ -46,8 +46,8 @@ fn read_start(
     ensures right { IfOk result (λ s. (k : ℕ) → k < rights → bit s (lefts + k) ≡ bit row.now (1 + inputs + (lefts + gates) + k)) }
 {
     let mut start = BitRow::with_len(alloc, lefts + rights)?;
-    copy_bits(row, 1 + inputs, &mut start, 0, lefts);
-    copy_bits(row, 1 + inputs + lefts + gates, &mut start, lefts, rights);
+    start.copy_bits(0, row, 1 + inputs, lefts);
+    start.copy_bits(lefts, row, 1 + inputs + lefts + gates, rights);
     Ok(start)
 }
 
@@ -86,21 +86,6 @@ pub(crate) fn part_of(
     ensures copied { IfOk result (λ r. (k : ℕ) → k < count → bit r k ≡ bit from.now (at + k)) }
 {
     let mut row = BitRow::with_len(alloc, count)?;
-    copy_bits(from, at, &mut row, 0, count);
+    row.copy_bits(0, from, at, count);
     Ok(row)
-}
-
-// Copies so many bits from one row into another.
-fn copy_bits(from: &BitRow, at: u32, to: &mut BitRow, start: u32, count: u32)
-    requires source { at + count ≤ length from.now }
-    requires target { start + count ≤ length to.old }
-    requires source_room { at + count < 4294967296 }
-    requires target_room { start + count < 4294967296 }
-    ensures size { length to.new ≡ length to.old }
-    ensures copied { (k : ℕ) → k < count → bit to.new (start + k) ≡ bit from.now (at + k) }
-    ensures below { (k : ℕ) → k < start → bit to.new k ≡ bit to.old k }
-{
-    for k in 0..count {
-        to.set(start + k, from.get(at + k));
-    }
 }

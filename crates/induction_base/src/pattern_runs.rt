@@ -2,12 +2,13 @@
 //! is made into a run and looked at.
 ghost use Rattle.std.specs.Prelude.{◌≡◌, ◌<◌, ◌+◌, ◌/◌, IfOk, IfSome, IsTrue, length};
 ghost use Rattle.circ_model.specs.Correspondence.{IsLiteral};
-ghost use Rattle.circ_model.specs.Meaning.{IsRun, latches_of, value_in};
+ghost use Rattle.circ_model.specs.Meaning.{IsRun, latches_of};
 ghost use Rattle.induction_base.specs.Search.{ApartAtEnd};
 
+use aig_graph::literal_bit;
 use and_graph::{LeafValue, Pattern};
 use bit_rows::{BitRow, Rows};
-use circ_model::{Lit, Reset};
+use circ_model::Lit;
 use frame_graph::{FrameMap, Leaf};
 use product_machine::{Path, Product, Scratch};
 use std::alloc::{AllocError, Global};
@@ -18,9 +19,7 @@ fn quiet_start(alloc: Global, product: &Product) -> Result<BitRow, AllocError>
 {
     let mut start = BitRow::with_len(alloc, product.latches())?;
     for i in 0..product.latches() {
-        if product.reset(i) == Reset::One {
-            start.set(i, true);
-        }
+        start.set(i, product.reset(i).first_bit());
     }
     Ok(start)
 }
@@ -101,15 +100,6 @@ pub(crate) fn run_of(
     }
 }
 
-// The value of a literal of the pair.
-fn value_of(row: &BitRow, lit: Lit) -> bool
-    requires { lit / 2 < length row.now }
-    ensures { result ≡ value_in row.now lit }
-{
-    let plain = row.get(lit.var());
-    if lit.is_complement() { !plain } else { plain }
-}
-
 // Whether two literals differ in the last frame of a run.
 pub(crate) fn differs_at_end(
     alloc: Global,
@@ -127,5 +117,5 @@ pub(crate) fn differs_at_end(
 {
     let mut scratch = Scratch::for_product(alloc, product)?;
     product.values_at(run, t as u64, &mut scratch);
-    Ok(value_of(scratch.values(), a) != value_of(scratch.values(), b))
+    Ok(literal_bit(scratch.values(), a) != literal_bit(scratch.values(), b))
 }

@@ -7,7 +7,7 @@ use Rattle.circ_model.specs.declared.netlist.Gate.{Gate}
 use Rattle.circ_model.specs.Netlist.{Netlist, IsSound}
 use Rattle.circ_model.proofs.Order.{length_variables}
 use Rattle.circ_model.proofs.Rows.{length_leaves}
-use Rattle.product_machine.proofs.Size.{few_variables}
+use Rattle.circ_model.proofs.Counting.{few_variables}
 use Rattle.aig_graph.specs.Finish.{IsFinished}
 
 -- one number more

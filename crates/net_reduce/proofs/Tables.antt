@@ -17,16 +17,15 @@ use Rattle.net_reduce.specs.Reduced.{stays, least_variable, is_complement, repla
 use Rattle.net_reduce.specs.Table.{standing, IsTable, through, stays_by}
 
 -- one place more
-pub table_more : (net : Netlist) (classes : Classes) (names table : List ℕ) (q v lit : ℕ) → IsSound net → names ≡ variables net → v ≡ get_or names q 0 → q < length (variables net) → lit ≡ standing names classes q
+pub table_more : (net : Netlist) (classes : Classes) (table : List ℕ) (q v lit : ℕ) → IsSound net → v ≡ get_or (variables net) q 0 → q < length (variables net) → lit ≡ standing (variables net) classes q
     → IsTable net classes q table → IsTable net classes (q + 1) (set table v lit)
-table_more net classes names table q v lit sound same at lt is h =
-    let here : v ≡ get_or (variables net) q 0 = at ∙ ap (λ (vs : List ℕ). get_or vs q 0) same in
+table_more net classes table q v lit sound here lt is h =
     let room = sound.in_range q 0 lt in
     let size = h.size in
     record {
       size = length-set table v lit ∙ h.size;
       at = λ r less within. ⊎_elim
-          (λ (e : r ≡ q). rw (e, sym here) (get_or-set_same table v lit 0 (omega arith) ∙ is ∙ ap (λ (vs : List ℕ). standing vs classes q) same))
+          (λ (e : r ≡ q). rw (e, sym here) (get_or-set_same table v lit 0 (omega arith) ∙ is))
           (λ (other : r ≢ q). get_or-set_other table v (get_or (variables net) r 0) lit 0 (λ e. sound.once r q 0 (omega arith) lt (e ∙ here)) ∙ h.at r (omega arith) within)
           (cases_eq r q);
     }

@@ -1,34 +1,11 @@
 //! What stays of a netlist, given to a builder with other literals.
 ghost use Rattle.std.specs.Prelude.{◌≡◌, ◌≤◌, ◌<◌, ◌+◌, ◌/◌, ◌++◌, ◌∷◌, [], length, map, filter, cond, All, Some, OnOk, IfOk, if◌then◌else◌, slice_index};
-ghost use Rattle.aig_graph.specs.Finish.{IsFinished};
-ghost use Rattle.aig_graph.specs.Given.{reset_of};
 ghost use Rattle.circ_model.specs.Meaning.{is_odd, negated};
 ghost use Rattle.net_reduce.specs.Reduced.{latch_with, gate_with};
 ghost use Rattle.net_reduce.specs.Table.{through, stays_by};
 
-use aig_graph::{BuildFault, NetBuilder, Netlist};
-use circ_model::{Gate, Latch, Lit, Reset};
-use std::alloc::{AllocError, Global};
-
-// A builder's answer where it has no cause to refuse but want of memory.
-pub(crate) fn taken(answer: Result<(), BuildFault>) -> Result<(), AllocError>
-    ensures { OnOk result (answer ≡ Ok tt) }
-{
-    match answer {
-        Ok(()) => Ok(()),
-        Err(_) => Err(AllocError),
-    }
-}
-
-// The netlist of what a builder was given.
-pub(crate) fn finished(alloc: Global, builder: NetBuilder) -> Result<Netlist, AllocError>
-    ensures { IfOk result (λ net. IsFinished builder net) }
-{
-    match builder.finish(alloc) {
-        Ok(net) => Ok(net),
-        Err(_) => Err(AllocError),
-    }
-}
+use aig_graph::{BuildFault, NetBuilder, reset_literal};
+use circ_model::{Gate, Latch, Lit};
 
 // What stands for a literal.
 fn replaced(table: &[Lit], lit: Lit) -> Lit
@@ -47,37 +24,18 @@ fn stays(table: &[Lit], var: u32) -> bool
     table[var as usize].var() == var
 }
 
-// The reset literal of a latch.
-fn reset_literal(var: u32, reset: Reset) -> Lit
-    requires few { var ≤ 1000000 }
-    ensures { 0 < var → reset_of var result ≡ Some reset }
-{
-    match reset {
-        Reset::Zero => Lit::of(0, false),
-        Reset::One => Lit::of(0, true),
-        Reset::Free => Lit::of(var, false),
-    }
-}
-
-// An input.
-pub(crate) fn push_input(var: u32, builder: &mut NetBuilder) -> Result<(), AllocError>
-    ensures { OnOk result (builder.new ≡ record builder.old { inputs = builder.old.inputs ++ var ∷ [] }) }
-{
-    taken(builder.input(var))
-}
-
 // All inputs.
-pub(crate) fn push_inputs(inputs: &[u32], builder: &mut NetBuilder) -> Result<(), AllocError>
+pub(crate) fn push_inputs(inputs: &[u32], builder: &mut NetBuilder) -> Result<(), BuildFault>
     ensures { OnOk result (builder.new ≡ record builder.old { inputs = builder.old.inputs ++ inputs.now }) }
 {
     for i in 0..inputs.len() {
-        push_input(inputs[i], builder)?;
+        builder.input(inputs[i])?;
     }
     Ok(())
 }
 
 // A latch, where it stays.
-fn push_latch(latch: Latch, table: &[Lit], builder: &mut NetBuilder) -> Result<(), AllocError>
+fn push_latch(latch: Latch, table: &[Lit], builder: &mut NetBuilder) -> Result<(), BuildFault>
     requires var { latch.var < length table.now }
     requires next { latch.next / 2 < length table.now }
     requires few { length table.now ≤ 1000001 }
@@ -87,7 +45,7 @@ fn push_latch(latch: Latch, table: &[Lit], builder: &mut NetBuilder) -> Result<(
         return Ok(());
     }
     let next = replaced(table, latch.next);
-    taken(builder.latch(latch.var, next, reset_literal(latch.var, latch.reset)))
+    builder.latch(latch.var, next, reset_literal(latch.var, latch.reset))
 }
 
 // The latches that stay.
@@ -95,7 +53,7 @@ pub(crate) fn push_latches(
     latches: &[Latch],
     table: &[Lit],
     builder: &mut NetBuilder,
-) -> Result<(), AllocError>
+) -> Result<(), BuildFault>
     requires vars { All (λ l. l.var < length table.now) latches.now }
     requires nexts { All (λ l. l.next / 2 < length table.now) latches.now }
     requires few { length table.now ≤ 1000001 }
@@ -112,19 +70,19 @@ pub(crate) fn push_outputs(
     outputs: &[Lit],
     table: &[Lit],
     builder: &mut NetBuilder,
-) -> Result<(), AllocError>
+) -> Result<(), BuildFault>
     requires within { All (λ o. o / 2 < length table.now) outputs.now }
     requires room { length builder.old.outputs + length outputs.now ≤ 1000000 }
     ensures { OnOk result (builder.new ≡ record builder.old { outputs = builder.old.outputs ++ map (through table.now) outputs.now }) }
 {
     for i in 0..outputs.len() {
-        taken(builder.output(replaced(table, outputs[i])))?;
+        builder.output(replaced(table, outputs[i]))?;
     }
     Ok(())
 }
 
 // A gate, where it stays.
-fn push_gate(gate: Gate, table: &[Lit], builder: &mut NetBuilder) -> Result<(), AllocError>
+fn push_gate(gate: Gate, table: &[Lit], builder: &mut NetBuilder) -> Result<(), BuildFault>
     requires var { gate.var < length table.now }
     requires left { gate.left / 2 < length table.now }
     requires right { gate.right / 2 < length table.now }
@@ -135,7 +93,7 @@ fn push_gate(gate: Gate, table: &[Lit], builder: &mut NetBuilder) -> Result<(), 
     }
     let left = replaced(table, gate.left);
     let right = replaced(table, gate.right);
-    taken(builder.gate(gate.var, left, right))
+    builder.gate(gate.var, left, right)
 }
 
 // The gates that stay.
@@ -143,7 +101,7 @@ pub(crate) fn push_gates(
     gates: &[Gate],
     table: &[Lit],
     builder: &mut NetBuilder,
-) -> Result<(), AllocError>
+) -> Result<(), BuildFault>
     requires vars { All (λ g. g.var < length table.now) gates.now }
     requires lefts { All (λ g. g.left / 2 < length table.now) gates.now }
     requires rights { All (λ g. g.right / 2 < length table.now) gates.now }

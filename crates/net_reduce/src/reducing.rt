@@ -8,16 +8,16 @@ ghost use Rattle.net_reduce.specs.Stub.{stub_of};
 ghost use Rattle.net_reduce.specs.Reduced.{netlist_with, IsReduced, FreeLatchesStay, tied_pair, OutputsAgree};
 ghost use Rattle.net_reduce.specs.Table.{through, stays_by};
 
-use crate::copying::{finished, push_gates, push_inputs, push_latches, push_outputs};
+use crate::copying::{push_gates, push_inputs, push_latches, push_outputs};
 use crate::table::table_of;
-use aig_graph::{NetBuilder, Netlist};
+use aig_graph::{BuildFault, NetBuilder, Netlist};
 use circ_model::Lit;
 use class_partition::Classes;
 use product_machine::Product;
 use std::alloc::{AllocError, Global};
 
 // The netlist by what stands for its variables.
-fn replacing(alloc: Global, net: &Netlist, table: &[Lit]) -> Result<Netlist, AllocError>
+fn rebuilt(alloc: Global, net: &Netlist, table: &[Lit]) -> Result<Netlist, BuildFault>
     requires sound { IsSound net.now }
     requires size { length table.now ≡ net.now.max_var + 1 }
     ensures { IfOk result (IsFinished (netlist_with (stays_by table.now) (through table.now) net.now)) }
@@ -27,7 +27,17 @@ fn replacing(alloc: Global, net: &Netlist, table: &[Lit]) -> Result<Netlist, All
     push_latches(net.latches(), table, &mut builder)?;
     push_outputs(net.outputs(), table, &mut builder)?;
     push_gates(net.gates(), table, &mut builder)?;
-    finished(alloc, builder)
+    let reduced = builder.finish(alloc)?;
+    Ok(reduced)
+}
+
+// The same: a builder of it has no cause to refuse but want of memory.
+fn replacing(alloc: Global, net: &Netlist, table: &[Lit]) -> Result<Netlist, AllocError>
+    requires sound { IsSound net.now }
+    requires size { length table.now ≡ net.now.max_var + 1 }
+    ensures { IfOk result (IsFinished (netlist_with (stays_by table.now) (through table.now) net.now)) }
+{
+    rebuilt(alloc, net, table).map_err(|_| AllocError)
 }
 
 /// The left netlist of a pair with its stub, reduced by the classes of the greatest correspondence: latches and gates that are

@@ -19,11 +19,6 @@ use Rattle.product_machine.specs.States.{output_pair, output_pairs}
 use Rattle.std.specs.List.{range_with_len}
 use Rattle.std.proofs.lemmas.List.FromFn.{length-range_with_len, get_or-range_with_len}
 
-pub last_variable : (net : Netlist) (gates : List Gate) (g : Gate) (q k : ℕ) → gates ≡ net.gates → q ≡ 1 + length net.inputs + length net.latches + k → k < length gates → (get_or gates k g).var ≡ get_or (variables net) q 0
-last_variable net gates g q k e at lt =
-    ap (λ (h : Gate). h.var) (get_or_default gates k g no_gate lt ∙ ap (λ (gs : List Gate). get_or gs k no_gate) e)
-    ∙ sym (gate_variable net k q (let s = ap length e in omega arith) (omega (arith, length_leaves net)))
-
 -- one variable more
 pub table_more : (net : Netlist) (shift q place : ℕ) (table : List ℕ) → IsSound net → q < length (variables net) → place < 2147483648 → place ≡ moved net shift q → IsTable net shift q table → IsTable net shift (q + 1) (set table (get_or (variables net) q 0) place)
 table_more net shift q place table sound lt low e h = record {

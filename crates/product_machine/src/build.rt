@@ -16,27 +16,6 @@ use aig_graph::Netlist;
 use circ_model::{Gate, Latch, Lit, Reset};
 use std::alloc::{AllocError, Global};
 
-// The variable at a place of a netlist.
-pub(crate) fn variable_at(net: &Netlist, q: u32) -> u32
-    requires { q < length (variables net.now) }
-    ensures { result ≡ slice_index (variables net.now) q }
-{
-    if q == 0 {
-        return 0;
-    }
-    let inputs = net.inputs();
-    let i = q as usize - 1;
-    if i < inputs.len() {
-        return inputs[i];
-    }
-    let latches = net.latches();
-    let k = i - inputs.len();
-    if k < latches.len() {
-        return latches[k].var;
-    }
-    net.gates()[k - latches.len()].var
-}
-
 // The place of each variable.
 pub(crate) fn place_table(
     alloc: Global,
@@ -58,7 +37,7 @@ pub(crate) fn place_table(
         } else {
             q + shift
         };
-        let v = variable_at(net, q) as usize;
+        let v = net.variable_at(q) as usize;
         table[v] = place;
     }
     Ok(table)
@@ -70,7 +49,7 @@ fn translated(table: &[u32], lit: Lit) -> Lit
     requires room { slice_index table.now (lit / 2) < 2147483648 }
     ensures { result ≡ literal_by (says table.now) lit }
 {
-    Lit::of(table[lit.var() as usize], lit.is_complement())
+    Lit::of(table[lit.var() as usize], lit.complement())
 }
 
 // What a latch with this reset starts with, where so many free ones stand before it.
@@ -225,24 +204,6 @@ fn push_inputs(cells: &mut Vec<Cell>, inputs: &[u32]) -> Result<(), AllocError>
     Ok(())
 }
 
-// The number of latches and gates.
-pub(crate) fn own_count(net: &Netlist) -> u32
-    requires { IsSound net.now }
-    ensures count { result ≡ length (own net.now) }
-    ensures few { result ≤ 1000001 }
-{
-    net.latches().len() as u32 + net.gates().len() as u32
-}
-
-// The number of variables, the constant included.
-pub(crate) fn variable_count(net: &Netlist) -> u32
-    requires { IsSound net.now }
-    ensures count { result ≡ length (variables net.now) }
-    ensures few { result ≤ 1000001 }
-{
-    1 + net.inputs().len() as u32 + own_count(net)
-}
-
 // The next literals of latches.
 fn push_nexts(nexts: &mut Vec<Lit>, latches: &[Latch], table: &[u32]) -> Result<(), AllocError>
     requires within { All (λ l. l.next / 2 < length table.now) latches.now }
@@ -294,9 +255,9 @@ pub(crate) fn tables_of(
     requires { IsSoundPair (record { left = left.now; right = right.now; tied = false }) }
     ensures { IfOk result (λ t. AreTables left.now right.now t.left.items t.right.items) }
 {
-    let lefts = variable_count(left);
-    let rights = variable_count(right);
-    let shift = own_count(left);
+    let lefts = left.variable_count();
+    let rights = right.variable_count();
+    let shift = left.own_count();
     Ok(Tables {
         left: place_table(alloc, left, lefts, 0)?,
         right: place_table(alloc, right, rights, shift)?,

@@ -13,10 +13,10 @@ ghost use Rattle.product_machine.specs.Faults.{Pairs};
 ghost use Rattle.product_machine.specs.Tables.{Places};
 ghost use Rattle.circ_model.specs.Netlist.{own};
 
-use crate::build::{Tables, cells_of, free_count, nexts_of, outputs_of, own_count, tables_of};
-use crate::rows::{both, copy_bits, value_of};
+use crate::build::{Tables, cells_of, free_count, nexts_of, outputs_of, tables_of};
+use crate::rows::both;
 use crate::{Cell, Start};
-use aig_graph::Netlist;
+use aig_graph::{Netlist, literal_bit};
 use bit_rows::BitRow;
 use circ_model::{Lit, Reset};
 use std::alloc::{AllocError, Global};
@@ -234,7 +234,7 @@ impl Product {
             return None;
         }
         let from = 1 + self.inputs();
-        match place_like(cells[(from + own_count(self.left()) + (i - lefts)) as usize]) {
+        match place_like(cells[(from + self.left().own_count() + (i - lefts)) as usize]) {
             None => None,
             Some(place) => Some(place - from),
         }
@@ -257,7 +257,7 @@ impl Product {
             → state.new ≡ next_state self.now state.old inputs }
     {
         for i in 0..state.len() {
-            let bit = value_of(values, self.next_literals[i as usize]);
+            let bit = literal_bit(values, self.next_literals[i as usize]);
             state.set(i, bit);
         }
     }
@@ -319,7 +319,7 @@ fn place_free(
     ensures left { (k : ℕ) → k < lefts → bit values.new (1 + given + k) ≡ bit state.now k }
     ensures right { (k : ℕ) → k < rights → bit values.new (1 + given + lefts + gates + k) ≡ bit state.now (lefts + k) }
 {
-    copy_bits(inputs, 0, values, 1, given);
-    copy_bits(state, 0, values, 1 + given, lefts);
-    copy_bits(state, lefts, values, 1 + given + lefts + gates, rights);
+    values.copy_bits(1, inputs, 0, given);
+    values.copy_bits(1 + given, state, 0, lefts);
+    values.copy_bits(1 + given + lefts + gates, state, lefts, rights);
 }

@@ -7,7 +7,6 @@ ghost use Rattle.product_machine.specs.Cells.{signals};
 ghost use Rattle.product_machine.specs.Signals.{signal_at, cell_at, IsGate};
 ghost use Rattle.product_machine.specs.Tables.{Places, IsOwnPlace};
 
-use crate::build::{own_count, variable_at, variable_count};
 use crate::cell::Cell;
 use crate::product::Product;
 use aig_graph::Netlist;
@@ -21,15 +20,15 @@ impl Product {
     {
         let _cells = self.cells();
         let given = self.inputs();
-        let own_left = own_count(self.left());
+        let own_left = self.left().own_count();
         if place == 0 {
             Signal::Const
         } else if place <= given {
             Signal::Input(place - 1)
         } else if place <= given + own_left {
-            Signal::Left(variable_at(self.left(), place))
+            Signal::Left(self.left().variable_at(place))
         } else {
-            Signal::Right(variable_at(self.right(), place - own_left))
+            Signal::Right(self.right().variable_at(place - own_left))
         }
     }
 
@@ -45,7 +44,7 @@ impl Product {
             Signal::Input(i) => { if i < self.inputs() { Some(1 + i) } else { None } }
             Signal::Left(v) => own_place(self.left(), self.left_places(), 0, v),
             Signal::Right(v) => {
-                own_place(self.right(), self.right_places(), own_count(self.left()), v)
+                own_place(self.right(), self.right_places(), self.left().own_count(), v)
             }
         }
     }
@@ -86,12 +85,12 @@ fn own_place(net: &Netlist, table: &[u32], shift: u32, v: u32) -> Option<u32>
         return None;
     }
     let place = table[at];
-    let count = variable_count(net);
-    let shared = count - own_count(net);
+    let count = net.variable_count();
+    let shared = count - net.own_count();
     if place < shared + shift || place >= count + shift {
         return None;
     }
-    if variable_at(net, place - shift) == v {
+    if net.variable_at(place - shift) == v {
         Some(place)
     } else {
         None

@@ -80,7 +80,7 @@ impl Product {
         requires latch { i < latches_of self.now }
         ensures { IsTrue result ↔ MayStart self.now path.now i }
     {
-        may_start_at(self.reset(i), path.start.get(i)) && self.starts_tied(path, i)
+        self.reset(i).allows(path.start.get(i)) && self.starts_tied(path, i)
     }
 
     // Whether latch i starts as its partner, where it has one.
@@ -145,17 +145,5 @@ impl Product {
             self.next_state(values, state);
         }
         self.eval(state, path.inputs.row(t), values);
-    }
-}
-
-// Whether a latch with this reset may start at this bit.
-fn may_start_at(reset: Reset, start: bool) -> bool
-    ensures yes { IsTrue result → MayStartAt reset start }
-    ensures no { MayStartAt reset start → IsTrue result }
-{
-    match reset {
-        Reset::Zero => !start,
-        Reset::One => start,
-        Reset::Free => true,
     }
 }

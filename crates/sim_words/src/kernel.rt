@@ -13,7 +13,7 @@ use product_machine::{Cell, Product};
 fn mask_of(lit: Lit) -> u64
     ensures { (b : ℕ) → b < 64 → lane_bit b result ≡ is_odd lit }
 {
-    if lit.is_complement() { !0 } else { 0 }
+    if lit.complement() { !0 } else { 0 }
 }
 
 // The word of a literal.

@@ -76,7 +76,7 @@ pub(crate) fn word_at(words: &[u64], at: usize) -> u64 {
 // The word of a literal.
 fn literal_word(words: &[u64], lit: Lit) -> u64 {
     let word = word_at(words, lit.var() as usize);
-    if lit.is_complement() { !word } else { word }
+    if lit.complement() { !word } else { word }
 }
 
 // The word with which a latch starts: that of its class's least place, at their relative phase, where that is an earlier one, and

@@ -1,21 +1,13 @@
 //! Replay: the first frame and output in which the two sides of a path differ.
-ghost use Rattle.std.specs.Prelude.{◌≡◌, ◌<◌, ◌/◌, length};
-ghost use Rattle.circ_model.specs.Meaning.{places_of, IsPath, value_in};
+ghost use Rattle.std.specs.Prelude.{◌≡◌, length};
+ghost use Rattle.circ_model.specs.Meaning.{places_of, IsPath};
 ghost use Rattle.circ_model.specs.Verdict.{FirstDifference};
 ghost use Rattle.product_machine.specs.Walk.{FitsPair};
 ghost use Rattle.trace_witness.specs.Replay.{FirstInRow};
 
+use aig_graph::literal_bit;
 use bit_rows::BitRow;
-use circ_model::Lit;
 use product_machine::{Path, Product, Scratch};
-
-fn value_of(row: &BitRow, lit: Lit) -> bool
-    requires { lit / 2 < length row.now }
-    ensures { result ≡ value_in row.now lit }
-{
-    let plain = row.get(lit.var());
-    if lit.is_complement() { !plain } else { plain }
-}
 
 // The first output that differs in a row of values.
 fn first_in_row(product: &Product, row: &BitRow) -> Option<u32>
@@ -25,7 +17,7 @@ fn first_in_row(product: &Product, row: &BitRow) -> Option<u32>
     let _cells = product.cells();
     for j in 0..product.outputs() {
         let (left, right) = product.output(j);
-        if value_of(row, left) != value_of(row, right) {
+        if literal_bit(row, left) != literal_bit(row, right) {
             return Some(j);
         }
     }

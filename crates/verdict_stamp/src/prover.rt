@@ -14,7 +14,7 @@ ghost use Rattle.verdict_stamp.specs.Proofs.{IsApart, IsProof, IsSettled, IsSpli
 
 use crate::known::Known;
 use crate::vector::Vector;
-use crate::verdict::{Verdict, literals_of};
+use crate::verdict::Verdict;
 use crate::version::Version;
 use bit_rows::BitRow;
 use class_partition::Needed;
@@ -150,7 +150,7 @@ fn ask_base<'p>(
 {
     let product = version.product();
     let _places = product.len();
-    let (a, b) = literals_of(version.classes(), pair);
+    let (a, b) = version.classes().needed(pair.member);
     let made = match frames.take() {
         Some(made) => made,
         None => Prepared::reset_frames(alloc, product, version.k())?,
@@ -178,7 +178,7 @@ fn ask_step<'p>(
     let product = version.product();
     let _places = product.len();
     let k = version.k();
-    let (a, b) = literals_of(version.classes(), pair);
+    let (a, b) = version.classes().needed(pair.member);
     let made = match frames.take() {
         Some(made) => made,
         None => Prepared::step_frames(alloc, product, k, version.classes())?,

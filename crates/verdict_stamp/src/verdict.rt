@@ -1,7 +1,7 @@
 //! A verdict: that a needed pair passed under a version.
 ghost use Rattle.std.specs.Prelude.{◌≡◌, ◌<◌, IfNone, IfSome, length};
 ghost use Rattle.circ_model.specs.Meaning.{places_of};
-ghost use Rattle.class_partition.specs.Classes.{IsNeeded, least_of, needed};
+ghost use Rattle.class_partition.specs.Classes.{IsNeeded, least_of};
 ghost use Rattle.verdict_stamp.specs.declared.used.Used.TheVariants as rests_on;
 ghost use Rattle.verdict_stamp.specs.Known.{ArePaired, IsBelow, Tells, known_of};
 ghost use Rattle.verdict_stamp.specs.Versions.{IsPassed};
@@ -9,7 +9,6 @@ ghost use Rattle.verdict_stamp.specs.Versions.{IsPassed};
 use crate::known::Known;
 use crate::used::Used;
 use crate::version::Version;
-use circ_model::Lit;
 use class_partition::{Classes, Needed};
 use std::marker::Model;
 
@@ -30,22 +29,6 @@ impl<'v, 'p> Model for Verdict<'v, 'p> {
     ghost view = { λ v. record { version = v.version.now; member = v.place; used = v.rests } };
 
     ghost invariant = { λ v. IsPassed (record { version = v.version.now; member = v.place; used = v.rests }) };
-}
-
-// The literals of a needed pair.
-pub(crate) fn literals_of(classes: &Classes, pair: Needed) -> (Lit, Lit)
-    requires place { pair.member < length classes.now.least }
-    requires rep { pair.rep ≡ least_of classes.now pair.member }
-    requires few { length classes.now.least < 2147483648 }
-    ensures { result ≡ needed classes.now pair.member }
-{
-    let _places = classes.len();
-    let sign = if classes.phase(pair.rep) {
-        !classes.phase(pair.member)
-    } else {
-        classes.phase(pair.member)
-    };
-    (Lit::of(pair.rep, false), Lit::of(pair.member, sign))
 }
 
 impl<'v, 'p> Verdict<'v, 'p> {
@@ -94,7 +77,7 @@ impl<'v, 'p> Verdict<'v, 'p> {
         ensures some { IfSome result (λ w. ArePaired known.now version.now pair.member × (w ≡ known_of known.now version.entry.now pair.member)) }
     {
         let _places = version.product().len();
-        let (a, b) = literals_of(version.classes(), pair);
+        let (a, b) = version.classes().needed(pair.member);
         let _product = known.product();
         if !known.classes().paired(a, b) {
             return None;

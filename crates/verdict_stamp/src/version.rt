@@ -10,7 +10,6 @@ ghost use Rattle.verdict_stamp.specs.Versions.{IsVersion, first_version};
 
 use crate::vector::Vector;
 use bit_rows::BitRow;
-use circ_model::Reset;
 use class_partition::Classes;
 use product_machine::Product;
 use sim_words::SimState;
@@ -37,24 +36,13 @@ impl<'p> Model for Version<'p> {
     ghost invariant = { λ v. IsVersion (record { pair = v.product.now; k = v.depth; classes = v.partition; number = v.splits }) };
 }
 
-// What a latch with this reset starts with in the run with all free latches 0.
-fn first_bit(reset: Reset) -> bool
-    ensures { result ≡ first_bit reset }
-{
-    match reset {
-        Reset::Zero => false,
-        Reset::One => true,
-        Reset::Free => false,
-    }
-}
-
 // The state of the run with all free latches 0.
 fn write_first_state(product: &Product, state: &mut BitRow)
     requires { length state.old ≡ latches_of product.now }
     ensures { state.new ≡ map first_bit (resets product.now) }
 {
     for i in 0..state.len() {
-        state.set(i, first_bit(product.reset(i)));
+        state.set(i, product.reset(i).first_bit());
     }
 }
 

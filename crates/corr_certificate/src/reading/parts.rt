@@ -130,22 +130,6 @@ fn read_asked<'a>(
     Ok(read)
 }
 
-// The least place of a place's class, and the place at their relative phase.
-fn needed_literals(classes: &Classes, member: u32) -> (Lit, Lit)
-    requires place { member < length classes.now.least }
-    requires few { length classes.now.least < 2147483648 }
-    ensures { result ≡ needed classes.now member }
-{
-    let _places = classes.len();
-    let rep = classes.rep(member);
-    let sign = if classes.phase(rep) {
-        !classes.phase(member)
-    } else {
-        classes.phase(member)
-    };
-    (Lit::of(rep, false), Lit::of(member, sign))
-}
-
 /// Reads both parts of a member from where reading stands.
 pub fn check_member<'a>(
     alloc: Global,
@@ -170,7 +154,7 @@ pub fn check_member<'a>(
 {
     let product = claim.product;
     let _places = (product.len(), claim.classes.len());
-    let (a, b) = needed_literals(claim.classes, member);
+    let (a, b) = claim.classes.needed(member);
     let base = Part {
         keyword: b"base ",
         member,

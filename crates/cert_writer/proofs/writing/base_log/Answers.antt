@@ -13,7 +13,7 @@ pub unreachable-requires : goal.unreachable-requires
 unreachable-requires c =
     let f = c.frames.inside in
     let lt = subst (λ (s : Certified). c.args.place < places_of s.pair) (sym c.frames.view_is) c.requires.place in
-    no_base_path f.product.now f.k f.classes.now c.args.place f.base c.literals_of-a.result c.in_ok-log.field-0 c.in-Path._seen c.frames.invariant.proved.some c.frames.invariant.proved.stable lt c.frames.invariant.base_is c.literals_of-a.ensures c.in-Path.is c.in_ok-log.ensures
+    no_base_path f.product.now f.k f.classes.now c.args.place f.base c.needed-a.result c.in_ok-log.field-0 c.in-Path._seen c.frames.invariant.proved.some c.frames.invariant.proved.stable lt c.frames.invariant.base_is c.needed-a.ensures c.in-Path.is c.in_ok-log.ensures
 
 pub returns-clause-accepted : goal.returns-clause-accepted
 returns-clause-accepted c =
@@ -21,7 +21,7 @@ returns-clause-accepted c =
     let place : ℕ = c.args.place in
     subst (λ (s : Certified). IfOk c.trim.result (IsAccepted (base_formula s.pair s.k s.classes place))) c.frames.view_is
     (trimmed_accepted (base_formula f.product.now f.k f.classes.now place) f.base_clauses c.in-None.log c.trim.result (c.frames.invariant.base_count place)
-    (base_accepted f.product.now f.k f.classes.now place f.base c.literals_of-a.result c.in_ok-log.field-0 c.in-None.log c.frames.invariant.base_is c.literals_of-a.ensures c.in-None.is c.in_ok-log.ensures) c.trim.ensures.accepted)
+    (base_accepted f.product.now f.k f.classes.now place f.base c.needed-a.result c.in_ok-log.field-0 c.in-None.log c.frames.invariant.base_is c.needed-a.ensures c.in-None.is c.in_ok-log.ensures) c.trim.ensures.accepted)
 
 pub returns-clause-trimmed : goal.returns-clause-trimmed
 returns-clause-trimmed c =

@@ -7,7 +7,7 @@ use Rattle.circ_model.specs.Meaning.{is_free, own_resets}
 use Rattle.circ_model.proofs.FreeLatches.{length_own_resets, count_more, free_number}
 use Rattle.circ_model.proofs.Order.{length_variables}
 use Rattle.circ_model.proofs.Rows.{length_leaves}
-use Rattle.product_machine.proofs.Size.{few_variables}
+use Rattle.circ_model.proofs.Counting.{few_variables}
 use Rattle.product_machine.proofs.Starting.{reset_read, all_resets}
 use Rattle.product_machine.proofs.build.free_count.Goals as goal
 

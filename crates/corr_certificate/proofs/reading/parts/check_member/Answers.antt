@@ -11,7 +11,7 @@ use Rattle.corr_certificate.proofs.reading.parts.check_member.Goals as goal
 
 pub returns-in-Err-clause-fault : goal.returns-in-Err-clause-fault
 returns-in-Err-clause-fault c =
-    let e = formula_by c.args.frames.now.base (from_reset c.args.claim.now.product.now c.args.claim.now.k) c.needed_literals.result (needed c.args.claim.now.classes.now c.args.member) 0 (c.args.claim.now.k - 1) c.requires.base c.needed_literals.ensures in
+    let e = formula_by c.args.frames.now.base (from_reset c.args.claim.now.product.now c.args.claim.now.k) c.needed.result (needed c.args.claim.now.classes.now c.args.member) 0 (c.args.claim.now.k - 1) c.requires.base c.needed.ensures in
     let h = at_err _ c.in_ok-fault.field-0 c.in-Err.fault c.in-Err.is c.in_ok-fault.ensures.fault in
     base_fault c.args.claim.now.product.now c.args.claim.now.k c.args.claim.now.classes.now c.args.member c.args.at.line (pieces 10 c.args.at.rest.now) c.in-Err.fault.kind c.in-Err.fault.line
     (subst (λ (g : Formula). IsFault c.args.claim.now.product.now (codes "base ") c.args.member g c.args.at.line (pieces 10 c.args.at.rest.now) c.in-Err.fault.kind c.in-Err.fault.line) e h)
@@ -25,8 +25,8 @@ returns-in-Ok-clause-on c =
     let line = c.in-Ok.next.line in
     let rest : List (List ℕ) = pieces 10 c.in-Ok.next.rest.now in
     let bytes : List (List ℕ) = pieces 10 c.args.at.rest.now in
-    let e = formula_by c.args.frames.now.base (from_reset pair k) c.needed_literals.result (needed classes p) 0 (k - 1) c.requires.base c.needed_literals.ensures in
-    let f = formula_by c.args.frames.now.step (after_classes pair k classes) c.needed_literals.result (needed classes p) k k c.requires.step c.needed_literals.ensures in
+    let e = formula_by c.args.frames.now.base (from_reset pair k) c.needed.result (needed classes p) 0 (k - 1) c.requires.base c.needed.ensures in
+    let f = formula_by c.args.frames.now.step (after_classes pair k classes) c.needed.result (needed classes p) k k c.requires.step c.needed.ensures in
     let on = at_ok _ c.in_ok-fault.field-0 c.in-Ok.next c.in-Ok.is c.in_ok-fault.ensures.on in
     let base : IsOn pair (codes "base ") p (base_formula pair k classes p) c.args.at.line bytes line rest = subst (λ (g : Formula). IsOn pair (codes "base ") p g c.args.at.line bytes line rest) e on in
     ok_map _ _ c.read_asked-in-Ok.result (λ o h. ok_map _ _ o (λ r x. member_both pair k classes p c.args.at.line line r.line bytes rest (pieces 10 r.rest.now) base
@@ -41,8 +41,8 @@ returns-in-Ok-clause-fault c =
     let line = c.in-Ok.next.line in
     let rest : List (List ℕ) = pieces 10 c.in-Ok.next.rest.now in
     let bytes : List (List ℕ) = pieces 10 c.args.at.rest.now in
-    let e = formula_by c.args.frames.now.base (from_reset pair k) c.needed_literals.result (needed classes p) 0 (k - 1) c.requires.base c.needed_literals.ensures in
-    let f = formula_by c.args.frames.now.step (after_classes pair k classes) c.needed_literals.result (needed classes p) k k c.requires.step c.needed_literals.ensures in
+    let e = formula_by c.args.frames.now.base (from_reset pair k) c.needed.result (needed classes p) 0 (k - 1) c.requires.base c.needed.ensures in
+    let f = formula_by c.args.frames.now.step (after_classes pair k classes) c.needed.result (needed classes p) k k c.requires.step c.needed.ensures in
     let on = at_ok _ c.in_ok-fault.field-0 c.in-Ok.next c.in-Ok.is c.in_ok-fault.ensures.on in
     let base : IsOn pair (codes "base ") p (base_formula pair k classes p) c.args.at.line bytes line rest = subst (λ (g : Formula). IsOn pair (codes "base ") p g c.args.at.line bytes line rest) e on in
     ok_map _ _ c.read_asked-in-Ok.result (λ o h. err_map _ _ o (λ x y. step_fault pair k classes p c.args.at.line line bytes rest x.kind x.line base

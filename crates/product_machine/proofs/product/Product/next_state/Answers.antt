@@ -4,8 +4,8 @@ use Rattle.product_machine.specs.States.{nexts}
 use Rattle.product_machine.proofs.States.{next_within_places, next_read, written_more, all_written, next_state_is}
 use Rattle.product_machine.proofs.product.Product.next_state.Goals as goal
 
-pub value_of-bit-requires : goal.value_of-bit-requires
-value_of-bit-requires c =
+pub literal_bit-bit-requires : goal.literal_bit-bit-requires
+literal_bit-bit-requires c =
     let is : IsSoundPair c.args.self.now = subst IsSoundPair c.self.view_is c.self.invariant.0 in
     let lt = c.loop-i-test.true in
     let h = next_within_places c.args.self.now c.self.inside.next_literals.items c.loop-i.i c.index.result.now is (c.self.invariant.2 ∙ ap nexts c.self.view_is) (omega (arith, c.requires.state, c.len-i-end.ensures)) in
@@ -27,7 +27,7 @@ loop-i-preserved c =
     let same = c.self.invariant.2 ∙ ap nexts c.self.view_is in
     let lt : c.loop-i.i < length c.loop-i.state = (let test = c.loop-i-test.true in omega (arith, c.len-i-end.ensures, c.loop-i.invariant.0)) in
     let read = next_read c.args.self.now items c.loop-i.i c.index.result.now same (let test = c.loop-i-test.true in omega (arith, c.requires.state, c.len-i-end.ensures)) c.index.ensures in (
-      ap length c.set.ensures ∙ length-set c.loop-i.state c.loop-i.i c.value_of-bit.result ∙ c.loop-i.invariant.0,
+      ap length c.set.ensures ∙ length-set c.loop-i.state c.loop-i.i c.literal_bit-bit.result ∙ c.loop-i.invariant.0,
       subst (λ (bits : List Bool). (k : ℕ) → k < c.loop-i.i + 1 → bit bits k ≡ value_in c.args.values.now (slice_index (nexts c.args.self.now) k)) (sym c.set.ensures)
-          (written_more c.args.self.now c.args.values.now c.loop-i.state c.loop-i.i c.value_of-bit.result lt (c.value_of-bit.ensures ∙ ap (value_in c.args.values.now) read) c.loop-i.invariant.1),
+          (written_more c.args.self.now c.args.values.now c.loop-i.state c.loop-i.i c.literal_bit-bit.result lt (c.literal_bit-bit.ensures ∙ ap (value_in c.args.values.now) read) c.loop-i.invariant.1),
     )

@@ -1,7 +1,7 @@
 use Rattle.std.proofs.Common.{length, ap, arith}
 use Rattle.circ_model.proofs.Order.{length_variables}
 use Rattle.circ_model.proofs.Rows.{length_leaves}
-use Rattle.product_machine.proofs.Size.{few_variables}
+use Rattle.circ_model.proofs.Counting.{few_variables}
 use Rattle.product_machine.proofs.product.Product.paired.Goals as goal
 
 pub overflow_cast-inputs : goal.overflow_cast-inputs

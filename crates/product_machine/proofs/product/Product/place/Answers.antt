@@ -8,9 +8,6 @@ use Rattle.product_machine.proofs.product.Product.place.Goals as goal
 pub own_place-requires-clause-sound : goal.own_place-requires-clause-sound
 own_place-requires-clause-sound c = subst IsSound (sym c.left.ensures) c.cells-cells.ensures.pair.left
 
-pub own_count-requires : goal.own_count-requires
-own_count-requires c = subst IsSound (sym c.left-in-Right.ensures) c.cells-cells.ensures.pair.left
-
 pub own_place-requires-in-Right-clause-sound : goal.own_place-requires-in-Right-clause-sound
 own_place-requires-in-Right-clause-sound c = subst IsSound (sym c.right.ensures) c.cells-cells.ensures.pair.right
 

@@ -9,7 +9,7 @@ use Rattle.product_machine.proofs.Tabling.{next_within, left_within, right_withi
 use Rattle.net_reduce.specs.Reduced.{netlist_with, latch_with, gate_with}
 use Rattle.net_reduce.specs.Table.{through, stays_by}
 use Rattle.net_reduce.proofs.Tables.{latch_within, gate_within}
-use Rattle.net_reduce.proofs.reducing.replacing.Goals as goal
+use Rattle.net_reduce.proofs.reducing.rebuilt.Goals as goal
 
 pub push_latches-requires-clause-vars : goal.push_latches-requires-clause-vars
 push_latches-requires-clause-vars c = subst (All (λ (l : Latch). l.var < length c.args.table.now)) (sym c.latches.ensures) (latch_within c.args.net.now (length c.args.table.now) c.requires.sound c.requires.size)
@@ -38,4 +38,4 @@ returns c =
     let four = c.in_ok-push_gates.ensures ∙ ap₂ (λ (b : Netlist) (gs : List Gate). record b { gates = b.gates ++ map (gate_with (through table)) (filter (λ (g : Gate). stays_by table g.var) gs) }) three c.gates.ensures in
     let whole : Netlist = netlist_with (stays_by table) (through table) c.args.net.now in
     let is : c.push_gates.new.builder ≡ whole = four ∙ ap (λ (m : ℕ). record whole { max_var = m }) c.max_var.ensures.same in
-    subst (λ (g : Netlist). IfOk c.finished.result (IsFinished g)) is c.finished.ensures
+    subst (λ (g : Netlist). IsFinished g c.in_ok-reduced.reduced) is c.in_ok-reduced.ensures

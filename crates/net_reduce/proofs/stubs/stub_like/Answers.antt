@@ -5,7 +5,7 @@ use Rattle.circ_model.specs.Netlist.{Netlist}
 use Rattle.aig_graph.specs.Finish.{IsFinished}
 use Rattle.net_reduce.specs.Stub.{stub_of}
 use Rattle.net_reduce.proofs.Numbering.{few_inputs, finished_as_given}
-use Rattle.net_reduce.proofs.stubs.stub.Goals as goal
+use Rattle.net_reduce.proofs.stubs.stub_like.Goals as goal
 
 pub overflow_cast-inputs : goal.overflow_cast-inputs
 overflow_cast-inputs c = omega (arith, few_inputs c.args.net.now c.inputs.ensures.sound, ap length c.inputs.ensures.same)
@@ -20,7 +20,7 @@ returns c =
     let one = c.in_ok-number_inputs.ensures ∙ ap (λ (b : Netlist). record b { inputs = b.inputs ++ range_with_len 1 (length c.inputs.result.now) }) c.in_ok-builder.ensures in
     let two = c.in_ok-clear_outputs.ensures ∙ ap (λ (b : Netlist). record b { outputs = replicate (length c.outputs.result.now) 0 }) one in
     let is : given ≡ stub_of net = two ∙ ap₂ (λ (i o : ℕ). stub_with i o) (ap length c.inputs.ensures.same) (ap length c.outputs.ensures.same) in
-    IfOk-weaker c.finished.result (IsFinished given) (λ s. s ≡ stub_of net) (λ s h. finished_as_given given s (ap (λ (n : Netlist). n.gates) is) h ∙ is) c.finished.ensures
+    finished_as_given given c.in_ok-stub.stub (ap (λ (n : Netlist). n.gates) is) c.in_ok-stub.ensures ∙ is
   where
     stub_with : ℕ → ℕ → Netlist
     stub_with i o = record { max_var = i; inputs = range_with_len 1 i; latches = []; outputs = replicate o 0; gates = [] }
