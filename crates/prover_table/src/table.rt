@@ -1,10 +1,10 @@
 //! What the workers of a run take turns at. One of them at a time sweeps the pairs, on a graph that all share: what one finds equal
 //! serves all. A question over a large cone is put aside, and its worker solves it away from the table, while others go on. Where it
 //! rests on a pair beneath it that another worker is still settling, it is asked again when that is settled.
-ghost use Rattle.std.specs.Prelude.{◌≡◌, IfErr, IfOk, IfSome, OnOk, is_some, true};
+ghost use Rattle.std.specs.Prelude.{◌≡◌, IfErr, IfOk, IfSome, OnOk, is_some, true, false};
 ghost use Rattle.and_graph.specs.Askers.{IsHalted, IsTaken};
 ghost use Rattle.and_graph.specs.declared.halt.Halt.TheVariants.{Posed};
-ghost use Rattle.prover_table.specs.Tables.{IsFoundFor, IsMemoryFor};
+ghost use Rattle.prover_table.specs.Tables.{IsBenchOf, IsFoundFor, IsMemoryFor};
 
 use crate::bench::{Bench, bench_for};
 use crate::lent::Lent;
@@ -42,6 +42,7 @@ impl<'v, 'p, L: Run> Table<'v, 'p, L> {
     /// A table without a bench, from which nobody is away, with what was proved before where something was.
     pub fn new(memory: Option<ProverMemory<'p>>) -> Table<'v, 'p, L>
         requires { IfSome memory (IsMemoryFor L.pair L.k) }
+        ensures { result ≡ false }
     {
         Table {
             bench: None,
@@ -51,15 +52,13 @@ impl<'v, 'p, L: Run> Table<'v, 'p, L> {
         }
     }
 
-    /// What was proved at it, and before, where something was.
+    /// What was proved at it, where there is a bench, and before, where something was.
     pub fn into_memory(self) -> Option<ProverMemory<'p>>
-        ensures { IfSome result (IsMemoryFor L.pair L.k) }
+        ensures memory { IfSome result (IsMemoryFor L.pair L.k) }
+        ensures left { self.entry ≡ true → is_some result ≡ true }
     {
         let Table { bench, memory, .. } = self;
-        match bench {
-            Some(bench) => Some(bench.into_memory()),
-            None => memory,
-        }
+        memory_of::<L>(bench).or(memory)
     }
 
     // What comes of an offered pair at the bench, which is turned to the offer's version.
@@ -161,6 +160,18 @@ impl<'v, 'p, L: Run> Table<'v, 'p, L> {
         }
         None
     }
+}
+
+// What was proved at a bench, where there is one.
+fn memory_of<'p, L: Run>(bench: Option<Bench<'_, 'p>>) -> Option<ProverMemory<'p>>
+    requires { IfSome bench (IsBenchOf L.list L.pair L.k) }
+    ensures memory { IfSome result (IsMemoryFor L.pair L.k) }
+    ensures left { is_some result ≡ is_some bench.entry }
+{
+    let Some(bench) = bench else {
+        return None;
+    };
+    Some(bench.into_memory())
 }
 
 // The member of an offer of which a question is put aside.

@@ -1,5 +1,5 @@
 //! What lies under the lock of a run: its board, what the ends of its workers say of it, and whether memory ran out.
-ghost use Rattle.std.specs.Prelude.{◌≡◌, ◌<◌, ◌≤◌, ◌+◌, ◌*◌, ◌^◌, [], true, length, IfSome};
+ghost use Rattle.std.specs.Prelude.{◌≡◌, ◌<◌, ◌≤◌, ◌+◌, ◌*◌, ◌^◌, ◌⊎◌, [], true, false, length, Contains, IfNone, IfSome, None};
 ghost use Rattle.circ_model.specs.Meaning.{places_of};
 ghost use Rattle.class_partition.specs.Classes.{AreOfGreatest};
 ghost use Rattle.refine_board.specs.States.{AllCounted};
@@ -86,6 +86,7 @@ impl<'v, 'p, L: Run, E: Ledger, O: Ledger> Desk<'v, 'p, L, E, O> {
         requires owed { O.parts ≡ L.workers * 2 }
         requires totals { ledgers ≡ no_totals }
         requires empty { board.entries ≡ [] }
+        ensures { result ≡ held board.entry false }
     {
         Desk {
             board,
@@ -202,11 +203,12 @@ impl<'v, 'p, L: Run, E: Ledger, O: Ledger> Desk<'v, 'p, L, E, O> {
         self.ledgers.pay(seat);
     }
 
-    /// The classes and the journal at the end of a run, where each worker's seat is back; none where memory ran out.
+    /// The classes and the journal at the end of a run, where each worker's seat is back and memory did not run out, and else none.
     pub fn close(self, told: Vec<Option<Seat<E, O>>>) -> Option<(Version<'p>, Journal)>
         requires all { length told.items ≡ L.workers }
         requires ended { HaveEnded told.items }
-        ensures { IfSome result (λ r. IsOutcome L.pair L.k L.workers L.opening r.0 r.1.entries) }
+        ensures outcome { IfSome result (λ r. IsOutcome L.pair L.k L.workers L.opening r.0 r.1.entries) }
+        ensures none { IfNone result ((self.entry.stopped ≡ true) ⊎ Contains told.items None) }
     {
         let Desk {
             board,

@@ -1,6 +1,6 @@
 //! What a worker brings to each call of the desk, and what the desk knows of all of them: ledgers, whose units take no bytes.
 //! That each worker ended once, and owes no answer then, is read off their totals when all seats are back.
-ghost use Rattle.std.specs.Prelude.{◌≡◌, ◌<◌, ◌≤◌, ◌+◌, ◌*◌, ◌^◌, true, IfOk, length};
+ghost use Rattle.std.specs.Prelude.{◌≡◌, ◌<◌, ◌≤◌, ◌+◌, ◌*◌, ◌^◌, true, false, Contains, IfOk, None, length};
 ghost use Rattle.work_desk.specs.Seats.{no_totals, AreSeats, HaveEnded, OwesLess};
 
 use std::alloc::{AllocError, Global};
@@ -87,12 +87,13 @@ impl<E: Ledger, O: Ledger> Ledgers<E, O> {
         seat.owed.give(&mut self.ended, 1, 0);
     }
 
-    /// Takes the seats of all workers back, and says whether each of them ended. Then the totals are those of one end each,
-    /// and no answer is owed.
+    /// Takes the seats of all workers back, and says whether none is missing. Then each of them ended: the totals are those of one
+    /// end each, and no answer is owed.
     pub(crate) fn all_back(self, told: Vec<Option<Seat<E, O>>>) -> bool
         requires ends { E.parts ≡ length told.items }
         requires owed { O.parts ≡ length told.items * 2 }
         requires ended { HaveEnded told.items }
+        ensures missing { result ≡ false → Contains told.items None }
         ensures weights { result ≡ true → self.weights + 1 ≡ 2 ^ length told.items }
         ensures few { result ≡ true → self.ends ≤ length told.items }
         ensures owed { result ≡ true → self.ends ≡ length told.items → self.owed ≡ 0 }

@@ -4,10 +4,10 @@ use Rattle.circ_model.specs.Meaning.{places_of}
 use Rattle.cnf_store.specs.Clauses.{IsLiteral}
 use Rattle.frame_unroll.specs.Unrolled.{Unrolling}
 use Rattle.frame_unroll.proofs.Standing.{frame_fits}
-use Rattle.frame_unroll.proofs.unrolled.Unrolled.literal.Goals.{After-len-n}
+use Rattle.frame_unroll.proofs.unrolled.Unrolled.literal.Goals.{After-literal}
 use Rattle.frame_unroll.proofs.unrolled.Unrolled.literal.Goals as goal
 
-fits : (c : After-len-n) → c.args.frame * c.len-n.result + c.len-n.result ≤ c.args.self.now.frames * places_of c.args.self.now.pair
+fits : (c : After-literal) → c.args.frame * c.len-n.result + c.len-n.result ≤ c.args.self.now.frames * places_of c.args.self.now.pair
 fits c =
     let u = c.args.self.now in
     let n = c.len-n.ensures.places ∙ ap (λ (v : Unrolling). places_of v.pair) c.self.view_is in

@@ -3,8 +3,8 @@ use Rattle.work_desk.specs.Desks.{held, IsDesk}
 use Rattle.work_desk.proofs.Steps.{outcome}
 use Rattle.work_desk.proofs.desk.Desk.close.Goals as goal
 
-pub returns : goal.returns
-returns g c =
+pub returns-clause-outcome : goal.returns-clause-outcome
+returns-clause-outcome g c =
     let i = c.self.inside in
     let back = c.if-not-all_back.ensures in
     outcome g.L.Run.pair g.L.Run.k g.L.Run.workers g.L.Run.opening i.board i.ledgers g.E.Ledger.parts g.O.Ledger.parts c.close.result.0 c.close.result.1.entries
