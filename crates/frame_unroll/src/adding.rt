@@ -1,8 +1,10 @@
-//! Clauses of one, two and three literals.
+//! Literals of places in frames, and clauses of one, two and three literals.
 ghost use Rattle.std.specs.Prelude.{◌≡◌, ◌<◌, ◌≤◌, ◌+◌, ◌*◌, ◌/◌, ◌++◌, ◌∷◌, [], ℕ, ℤ, List, Bool, OnOk, length, take, unsigned_abs};
+ghost use Rattle.circ_model.specs.Meaning.{literal};
 ghost use Rattle.cnf_store.specs.Clauses.{IsLiteral, AreLiterals};
-ghost use Rattle.frame_unroll.specs.Frames.{cnf_literal};
+ghost use Rattle.frame_unroll.specs.Frames.{cnf_literal, literal_in};
 
+use circ_model::Lit;
 use cnf_store::Cnf;
 use std::alloc::AllocError;
 
@@ -18,6 +20,30 @@ pub(crate) fn cnf_literal(positive: bool, m: u32) -> i32
     } else {
         -((m + 1) as i32)
     }
+}
+
+// The literal of the pair in frame t, whose variables begin past `base`.
+pub(crate) fn literal_in(n: u32, t: u32, base: u32, lit: Lit) -> i32
+    requires base { base ≡ t * n }
+    requires within { lit / 2 < n }
+    requires room { base + n < 2147483648 }
+    ensures value { result ≡ literal_in n t lit }
+    ensures some { 0 < unsigned_abs result }
+    ensures within { unsigned_abs result ≤ base + n }
+{
+    cnf_literal(!lit.complement(), base + lit.var())
+}
+
+// The literal of a place.
+pub(crate) fn place_literal(n: u32, t: u32, base: u32, p: u32, complement: bool) -> i32
+    requires base { base ≡ t * n }
+    requires place { p < n }
+    requires room { base + n < 2147483648 }
+    ensures value { result ≡ literal_in n t (literal p complement) }
+    ensures some { 0 < unsigned_abs result }
+    ensures within { unsigned_abs result ≤ base + n }
+{
+    literal_in(n, t, base, Lit::of(p, complement))
 }
 
 // A clause of any literals.

@@ -8,9 +8,9 @@ ghost use Rattle.cnf_store.specs.Clauses.{IsFormula, IsLiteral as IsClauseLitera
 ghost use Rattle.frame_unroll.specs.Frames.{literal_in, values};
 ghost use Rattle.frame_unroll.specs.Unrolled.{Unrolling, IsSought, IsUnrolling, AreFramesOf, asked_clauses, asking, clauses_of, variables_of, formula_of, from_reset, after_classes};
 
+use crate::adding::literal_in;
 use crate::cells::add_frames;
 use crate::equalities::{add_classes, needed_of};
-use crate::frame::Frame;
 use crate::path::{part_of, read_path};
 use crate::question::{Question, add_asked};
 use bit_rows::BitRow;
@@ -124,8 +124,7 @@ impl<'p> Unrolled<'p> {
         ensures is { IsClauseLiteral (self.now.frames * places_of self.now.pair) result }
     {
         let n = self.product.len();
-        let own = Frame::at(n, frame);
-        own.literal(lit)
+        literal_in(n, frame, frame * n, lit)
     }
 
     /// The clauses: those of the frames, in the order of frames and places, those of the needed pairs, and those of the
@@ -163,10 +162,9 @@ impl<'p> Unrolled<'p> {
         let count = last - first + 1;
         let used = self.count * n;
         self.cnf.add_vars(count);
-        let asked = Question { a, b, first, count };
-        match add_asked(alloc, &mut self.cnf, n, used, &asked) {
+        match add_asked(alloc, &mut self.cnf, n, used, a, b, first, count) {
             Ok(()) => {
-                self.question = Some(asked);
+                self.question = Some(Question { a, b, first, count });
                 Ok(())
             }
             Err(e) => {
@@ -184,11 +182,12 @@ impl<'p> Unrolled<'p> {
         ensures pair { IsSoundPair self.now.pair }
         ensures fine { IsUnrolling (asking self.now question) }
     {
+        let Question { a, b, first, count } = question;
         let product = self.product;
         let n = product.len();
         let used = self.count * n;
-        let mut own = Cnf::new(alloc, used + question.count)?;
-        add_asked(alloc, &mut own, n, used, &question)?;
+        let mut own = Cnf::new(alloc, used + count)?;
+        add_asked(alloc, &mut own, n, used, a, b, first, count)?;
         Ok(own)
     }
 

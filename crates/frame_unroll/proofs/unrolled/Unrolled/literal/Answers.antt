@@ -1,21 +1,15 @@
-use Rattle.std.proofs.Common.{◌≡◌, ◌∙◌, ◌≤◌, ◌+◌, ◌*◌, ap, arith, rules, subst, sym, FitsSigned, w32, ℕ}
+use Rattle.std.proofs.Common.{◌∙◌, ◌≤◌, ◌+◌, ◌*◌, ap, arith, rules, subst, sym, FitsSigned, w32}
 use Rattle.std.proofs.lemmas.Int.{to_z-of_z}
 use Rattle.circ_model.specs.Meaning.{places_of}
 use Rattle.cnf_store.specs.Clauses.{IsLiteral}
 use Rattle.frame_unroll.specs.Unrolled.{Unrolling}
 use Rattle.frame_unroll.proofs.Standing.{frame_fits}
-use Rattle.frame_unroll.proofs.unrolled.Unrolled.literal.Goals.{After-literal}
 use Rattle.frame_unroll.proofs.unrolled.Unrolled.literal.Goals as goal
-
-fits : (c : After-literal) → c.args.frame * c.len-n.result + c.len-n.result ≤ c.args.self.now.frames * places_of c.args.self.now.pair
-fits c =
-    let u = c.args.self.now in
-    let n = c.len-n.ensures.places ∙ ap (λ (v : Unrolling). places_of v.pair) c.self.view_is in
-    frame_fits c.args.frame u.frames c.len-n.result (places_of u.pair) (u.frames * places_of u.pair) n c.requires.within (omega arith)
 
 pub returns-clause-is : goal.returns-clause-is
 returns-clause-is c =
     let u = c.args.self.now in
-    let own = c.at-own.ensures in
-    let f : FitsSigned w32 c.literal.result = search rules in
-    subst (IsLiteral (u.frames * places_of u.pair)) (sym (to_z-of_z w32 c.literal.result f)) (c.literal.ensures.some, omega (arith, c.literal.ensures.within, own.base, own.places, fits c))
+    let n = c.len-n.ensures.places ∙ ap (λ (v : Unrolling). places_of v.pair) c.self.view_is in
+    let fits : c.args.frame * c.len-n.result + c.len-n.result ≤ u.frames * places_of u.pair = frame_fits c.args.frame u.frames c.len-n.result (places_of u.pair) (u.frames * places_of u.pair) n c.requires.within (omega arith) in
+    let f : FitsSigned w32 c.literal_in.result = search rules in
+    subst (IsLiteral (u.frames * places_of u.pair)) (sym (to_z-of_z w32 c.literal_in.result f)) (c.literal_in.ensures.some, omega (arith, c.literal_in.ensures.within, fits))
