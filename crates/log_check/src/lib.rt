@@ -10,4 +10,5 @@ mod refute;
 mod scan;
 mod whole_log;
 
+pub use line::are_within;
 pub use whole_log::{check, first_bad};

@@ -13,15 +13,15 @@ use cnf_store::Cnf;
 use sat_log::Log;
 use std::alloc::AllocError;
 
-// Whether a literal is one of the formula's.
+// Whether a literal is of so many variables.
 fn is_within(lit: i32, vars: u32) -> bool
     ensures { Decides result (IsLiteral vars lit) }
 {
     lit != 0 && lit.unsigned_abs() <= vars
 }
 
-// Whether all literals are of the formula's variables.
-fn are_within(literals: &[i32], vars: u32) -> bool
+/// Whether all literals are of so many variables, which are numbered from 1 on.
+pub fn are_within(literals: &[i32], vars: u32) -> bool
     ensures { Decides result (AreLiterals vars literals.now) }
 {
     for lit in literals {

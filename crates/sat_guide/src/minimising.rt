@@ -9,9 +9,9 @@ use std::alloc::{AllocError, Global};
 /// How many literals of reasons are read for one conflict.
 const MOST_READ: usize = 1000;
 
-/// What was found of a place.
+/// What was found of a place: whether its literal is redundant, as it follows from those at marked places.
 #[derive(Clone, Copy, PartialEq, Eq)]
-enum Found {
+enum Redundancy {
     Nothing,
     Follows,
     Stays,
@@ -27,7 +27,7 @@ struct Step {
 /// What is known of the places below a conflict's level.
 #[derive(Drop)]
 pub struct Minimiser {
-    found: Vec<Found>,
+    found: Vec<Redundancy>,
     path: Vec<Step>,
     left: usize,
 }
@@ -46,7 +46,7 @@ impl Minimiser {
     pub fn begin(&mut self, places: usize) -> Result<(), AllocError> {
         self.found.clear();
         self.left = MOST_READ;
-        self.found.resize(places, Found::Nothing)
+        self.found.resize(places, Redundancy::Nothing)
     }
 
     /// Whether the literal at a place follows from those at marked places below it.
@@ -58,7 +58,7 @@ impl Minimiser {
         seen: &[bool],
         place: usize,
     ) -> Result<bool, AllocError> {
-        if found_of(&self.found, place) == Found::Nothing {
+        if found_of(&self.found, place) == Redundancy::Nothing {
             self.path.clear();
             self.path.push(Step { place, next: 0 })?;
             let mut left = self.left;
@@ -68,7 +68,7 @@ impl Minimiser {
             }
             self.left = left;
         }
-        Ok(found_of(&self.found, place) == Found::Follows)
+        Ok(found_of(&self.found, place) == Redundancy::Follows)
     }
 
     // Goes on with the last place of the path, and says how many literals it read.
@@ -88,7 +88,7 @@ impl Minimiser {
         };
         let next = first_open(clause, step, &self.found, at, seen);
         if next >= clause.len() {
-            note(&mut self.found, step.place, Found::Follows);
+            note(&mut self.found, step.place, Redundancy::Follows);
         } else {
             self.descend(step.place, next, clause[next], at)?;
         }
@@ -104,7 +104,7 @@ impl Minimiser {
         at: &[usize],
     ) -> Result<(), AllocError> {
         let lower = place_of(lit, at);
-        if lower >= place || found_of(&self.found, lower) == Found::Stays {
+        if lower >= place || found_of(&self.found, lower) == Redundancy::Stays {
             self.give_up(place);
             return Ok(());
         }
@@ -118,25 +118,25 @@ impl Minimiser {
 
     // This place and those of the path stay.
     fn give_up(&mut self, place: usize) {
-        note(&mut self.found, place, Found::Stays);
+        note(&mut self.found, place, Redundancy::Stays);
         for step in &self.path {
-            note(&mut self.found, step.place, Found::Stays);
+            note(&mut self.found, step.place, Redundancy::Stays);
         }
         self.path.clear();
     }
 }
 
 // What was found of a place.
-fn found_of(found: &[Found], place: usize) -> Found {
+fn found_of(found: &[Redundancy], place: usize) -> Redundancy {
     if place < found.len() {
         found[place]
     } else {
-        Found::Stays
+        Redundancy::Stays
     }
 }
 
 // Writes what was found of a place.
-fn note(found: &mut [Found], place: usize, what: Found) {
+fn note(found: &mut [Redundancy], place: usize, what: Redundancy) {
     if place < found.len() {
         found[place] = what;
     }
@@ -165,7 +165,13 @@ fn place_of(lit: u32, at: &[usize]) -> usize {
 }
 
 // The first literal, from the step's next on, of which it isn't known that it follows from marked places.
-fn first_open(clause: &[u32], step: Step, found: &[Found], at: &[usize], seen: &[bool]) -> usize {
+fn first_open(
+    clause: &[u32],
+    step: Step,
+    found: &[Redundancy],
+    at: &[usize],
+    seen: &[bool],
+) -> usize {
     for n in step.next..clause.len() {
         if is_open(clause[n], step.place, found, at, seen) {
             return n;
@@ -175,10 +181,10 @@ fn first_open(clause: &[u32], step: Step, found: &[Found], at: &[usize], seen: &
 }
 
 // Whether a literal of a place's reason is another that isn't known to follow.
-fn is_open(lit: u32, place: usize, found: &[Found], at: &[usize], seen: &[bool]) -> bool {
+fn is_open(lit: u32, place: usize, found: &[Redundancy], at: &[usize], seen: &[bool]) -> bool {
     let lower = place_of(lit, at);
     if lower == place || (lower < seen.len() && seen[lower]) {
         return false;
     }
-    found_of(found, lower) != Found::Follows
+    found_of(found, lower) != Redundancy::Follows
 }
