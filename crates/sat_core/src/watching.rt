@@ -3,19 +3,19 @@
 ghost use Rattle.std.specs.Prelude.{◌≡◌, ◌≤◌, ◌<◌, ◌+◌, ◌^◌, IfOk, OnOk, length};
 ghost use Rattle.cnf_store.specs.Codes.{clause_at};
 ghost use Rattle.sat_core.specs.Solving.{Keeps};
-ghost use Rattle.sat_trail.specs.Looking.{IsFound};
+ghost use Rattle.sat_trail.specs.Looking.{IsStatus};
 ghost use Rattle.sat_core.specs.Watching.{Grows, HasSwept};
 
 use crate::solving::{Solver, imply};
 use sat_guide::{Guide, Near, Sweep, Watches};
-use sat_trail::{Found, complement};
+use sat_trail::{ClauseStatus, complement};
 use std::alloc::{AllocError, Global};
 
 // What the trail says of a clause, counted from 0.
-fn inspect_in(s: &Solver, number: usize) -> Found
+fn inspect_in(s: &Solver, number: usize) -> ClauseStatus
     requires keeps { Keeps s.now }
     requires number { number < length s.now.db }
-    ensures { IsFound s.now.trail.lits.items s.now.trail.at.items (clause_at s.now.db (number + 1)) result }
+    ensures { IsStatus s.now.trail.lits.items s.now.trail.at.items (clause_at s.now.db (number + 1)) result }
 {
     s.trail.inspect(s.db.get(number))
 }
@@ -29,13 +29,13 @@ fn settle(s: &mut Solver, number: usize) -> Option<u64>
         return None;
     }
     match inspect_in(s, number) {
-        Found::Unit(lit) => {
+        ClauseStatus::Unit(lit) => {
             imply(s, lit, number as u64 + 1);
             None
         }
-        Found::Wrong => Some(number as u64 + 1),
-        Found::Holds => None,
-        Found::Open => None,
+        ClauseStatus::Wrong => Some(number as u64 + 1),
+        ClauseStatus::Holds => None,
+        ClauseStatus::Open => None,
     }
 }
 

@@ -4,8 +4,8 @@ use Rattle.std.specs.List.{All, Any}
 use Rattle.cnf_store.specs.Codes.{neg, clause_at}
 use Rattle.cnf_store.specs.declared.value.Value.{Value}
 use Rattle.cnf_store.specs.declared.value.Value.TheVariants.{True, False, Free}
-use Rattle.sat_trail.specs.declared.looking.Found.{Found}
-use Rattle.sat_trail.specs.declared.looking.Found.TheVariants.{Holds, Open, Unit, Wrong}
+use Rattle.sat_trail.specs.declared.looking.ClauseStatus.{ClauseStatus}
+use Rattle.sat_trail.specs.declared.looking.ClauseStatus.TheVariants.{Holds, Open, Unit, Wrong}
 use Rattle.sat_trail.specs.declared.looking.Look.{Look}
 use Rattle.sat_trail.specs.declared.looking.Look.TheVariants.{Implied, Conflict, Quiet}
 use Rattle.sat_trail.specs.Trail.{StandsBelow, IsWrong, IsUnit}
@@ -25,11 +25,11 @@ abbrev pub IsOpenIn : List ℕ → List ℕ → Type 0
 IsOpenIn at clause = Any (λ m. slice_index at (m / 2) ≡ 0) clause
 
 -- a true literal, a free one, a free one among others that are false, or none but false ones
-abbrev pub IsFound : List ℕ → List ℕ → List ℕ → Found → Type 0
-IsFound lits at clause Holds = IsTrueIn lits clause
-IsFound lits at clause Open = IsOpenIn at clause
-IsFound lits at clause (Unit l) = IsUnit lits at clause l
-IsFound lits at clause Wrong = IsWrong lits (length lits) clause
+abbrev pub IsStatus : List ℕ → List ℕ → List ℕ → ClauseStatus → Type 0
+IsStatus lits at clause Holds = IsTrueIn lits clause
+IsStatus lits at clause Open = IsOpenIn at clause
+IsStatus lits at clause (Unit l) = IsUnit lits at clause l
+IsStatus lits at clause Wrong = IsWrong lits (length lits) clause
 
 -- a clause that implies a literal, or one that is false; with neither, each has a literal that is true or free
 abbrev pub IsLook : List (List ℕ) → List ℕ → List ℕ → Look → Type 0

@@ -11,5 +11,5 @@ mod looking;
 mod trail;
 
 pub use laws::{ranks_rise, reasons_imply};
-pub use looking::{Found, Look};
+pub use looking::{ClauseStatus, Look};
 pub use trail::{Trail, complement};

@@ -3,14 +3,14 @@
 ghost use Rattle.std.specs.Prelude.{◌≡◌, ◌<◌, ◌*◌, ℕ, IfSome, IfNone, length, slice_index, true};
 ghost use Rattle.std.specs.List.{All};
 ghost use Rattle.cnf_store.specs.Codes.{AreWithin};
-ghost use Rattle.sat_trail.specs.Looking.{IsFound, IsLook};
+ghost use Rattle.sat_trail.specs.Looking.{IsStatus, IsLook};
 
 use crate::trail::Trail;
 use cnf_store::{Clauses, Value};
 
 /// What a clause is under the trail.
 #[derive(Clone, Copy, PartialEq, Eq)]
-pub enum Found {
+pub enum ClauseStatus {
     /// Some literal is true.
     Holds,
     /// Some literal is free, and isn't known to be the only one.
@@ -34,24 +34,24 @@ pub enum Look {
 
 impl Trail {
     /// Looks at a clause.
-    pub fn inspect(&self, clause: &[u32]) -> Found
+    pub fn inspect(&self, clause: &[u32]) -> ClauseStatus
         requires within { All (λ l. l < 2 * length self.now.at.items) clause.now }
-        ensures { IsFound self.now.lits.items self.now.at.items clause.now result }
+        ensures { IsStatus self.now.lits.items self.now.at.items clause.now result }
     {
         let mut unit = None;
         for lit in clause {
             match self.value(*lit) {
-                Value::True => return Found::Holds,
+                Value::True => return ClauseStatus::Holds,
                 Value::False => {}
                 Value::Free => match unit {
-                    Some(_) => return Found::Open,
+                    Some(_) => return ClauseStatus::Open,
                     None => unit = Some(*lit),
                 },
             }
         }
         match unit {
-            Some(lit) => Found::Unit(lit),
-            None => Found::Wrong,
+            Some(lit) => ClauseStatus::Unit(lit),
+            None => ClauseStatus::Wrong,
         }
     }
 
@@ -62,10 +62,10 @@ impl Trail {
     {
         for i in 0..db.len() {
             match self.inspect(db.get(i)) {
-                Found::Holds => {}
-                Found::Open => {}
-                Found::Unit(lit) => return Look::Implied(lit, i as u64 + 1),
-                Found::Wrong => return Look::Conflict(i as u64 + 1),
+                ClauseStatus::Holds => {}
+                ClauseStatus::Open => {}
+                ClauseStatus::Unit(lit) => return Look::Implied(lit, i as u64 + 1),
+                ClauseStatus::Wrong => return Look::Conflict(i as u64 + 1),
             }
         }
         Look::Quiet
@@ -89,7 +89,7 @@ impl Trail {
 
 #[cfg(test)]
 mod tests {
-    use super::{Found, Look};
+    use super::{ClauseStatus, Look};
     use crate::trail::Trail;
     use cnf_store::{Arena, Clauses, Joined};
     use std::test::Fail;
@@ -129,19 +129,19 @@ mod tests {
     }
 
     // Whether this is what a clause is.
-    fn looks(trail: &Trail, clause: &[u32], found: Found) -> bool {
-        is_within(trail, clause) && trail.inspect(clause) == found
+    fn looks(trail: &Trail, clause: &[u32], status: ClauseStatus) -> bool {
+        is_within(trail, clause) && trail.inspect(clause) == status
     }
 
     #[test]
     fn a_clause_is_what_its_literals_are(rt: HostRuntime) -> Result<(), Fail> {
         let mut trail = Trail::new(rt.alloc(), 4)?;
         decide(&mut trail, &[0, 3]);
-        assert!(rt; looks(&trail, &[], Found::Wrong));
-        assert!(rt; looks(&trail, &[1, 2], Found::Wrong));
-        assert!(rt; looks(&trail, &[1, 4, 2], Found::Unit(4)));
-        assert!(rt; looks(&trail, &[4, 1, 6], Found::Open));
-        assert!(rt; looks(&trail, &[1, 0], Found::Holds));
+        assert!(rt; looks(&trail, &[], ClauseStatus::Wrong));
+        assert!(rt; looks(&trail, &[1, 2], ClauseStatus::Wrong));
+        assert!(rt; looks(&trail, &[1, 4, 2], ClauseStatus::Unit(4)));
+        assert!(rt; looks(&trail, &[4, 1, 6], ClauseStatus::Open));
+        assert!(rt; looks(&trail, &[1, 0], ClauseStatus::Holds));
         assert!(rt;
             is_within(&trail, &[1, 2]) && trail.top(&[1, 2], 9) == 2 && trail.top(&[1, 2], 2) == 1
         );
