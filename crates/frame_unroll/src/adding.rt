@@ -22,28 +22,36 @@ pub(crate) fn cnf_literal(positive: bool, m: u32) -> i32
     }
 }
 
-// The literal of the pair in frame t, whose variables begin past `base`.
-pub(crate) fn literal_in(n: u32, t: u32, base: u32, lit: Lit) -> i32
-    requires base { base ≡ t * n }
-    requires within { lit / 2 < n }
-    requires room { base + n < 2147483648 }
-    ensures value { result ≡ literal_in n t lit }
-    ensures some { 0 < unsigned_abs result }
-    ensures within { unsigned_abs result ≤ base + n }
-{
-    cnf_literal(!lit.complement(), base + lit.var())
+// Where the variables of a frame stand, by its number: past those of the frames before it, one for each place.
+#[derive(Drop)]
+pub(crate) struct Frame {
+    pub places: u32,
+    pub number: u32,
+    pub base: u32,
+    ghost begins: { base ≡ number * places },
+    ghost room: { base + places < 2147483648 },
 }
 
-// The literal of a place.
-pub(crate) fn place_literal(n: u32, t: u32, base: u32, p: u32, complement: bool) -> i32
-    requires base { base ≡ t * n }
-    requires place { p < n }
-    requires room { base + n < 2147483648 }
-    ensures value { result ≡ literal_in n t (literal p complement) }
-    ensures some { 0 < unsigned_abs result }
-    ensures within { unsigned_abs result ≤ base + n }
-{
-    literal_in(n, t, base, Lit::of(p, complement))
+impl Frame {
+    // The literal of a literal of the pair.
+    pub(crate) fn literal(&self, lit: Lit) -> i32
+        requires within { lit / 2 < self.now.places }
+        ensures value { result ≡ literal_in self.now.places self.now.number lit }
+        ensures some { 0 < unsigned_abs result }
+        ensures within { unsigned_abs result ≤ self.now.base + self.now.places }
+    {
+        cnf_literal(!lit.complement(), self.base + lit.var())
+    }
+
+    // The literal of a place.
+    pub(crate) fn place(&self, p: u32, complement: bool) -> i32
+        requires place { p < self.now.places }
+        ensures value { result ≡ literal_in self.now.places self.now.number (literal p complement) }
+        ensures some { 0 < unsigned_abs result }
+        ensures within { unsigned_abs result ≤ self.now.base + self.now.places }
+    {
+        self.literal(Lit::of(p, complement))
+    }
 }
 
 // A clause of any literals.

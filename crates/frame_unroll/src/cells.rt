@@ -1,236 +1,187 @@
 //! The clauses of cells: each frame's in the order of the places, frame after frame.
 ghost use Rattle.std.specs.Prelude.{◌≡◌, ◌<◌, ◌≤◌, ◌+◌, ◌-◌, ◌*◌, ◌/◌, ◌++◌, ◌∷◌, [], ℕ, List, Bool, true, false, OnOk, length};
 ghost use Rattle.circ_model.specs.Meaning.{literal, negated};
+ghost use Rattle.product_machine.specs.declared.cell.Cell.TheVariants.{Product};
 ghost use Rattle.product_machine.specs.declared.cell.Start.TheVariants.{Like};
 ghost use Rattle.product_machine.specs.Cells.{IsBehind, Rests, IsArranged};
 ghost use Rattle.frame_unroll.specs.Frames.{literal_in, start_clauses, latch_clauses, cell_clauses, frame_clauses, frames};
 
-use crate::adding::{add_one, add_three, add_two, literal_in, place_literal};
+use crate::adding::{Frame, add_one, add_three, add_two};
 use circ_model::Lit;
 use cnf_store::Cnf;
 use product_machine::{Cell, Start};
 use std::alloc::AllocError;
 
 // The variable needs the literal.
-fn add_needs(cnf: &mut Cnf, n: u32, t: u32, base: u32, p: u32, lit: Lit) -> Result<(), AllocError>
-    requires base { base ≡ t * n }
-    requires place { p < n }
-    requires within { lit / 2 < n }
-    requires room { base + n < 2147483648 }
-    requires variables { base + n ≤ cnf.old.vars }
+fn add_needs(cnf: &mut Cnf, frame: &Frame, p: u32, lit: Lit) -> Result<(), AllocError>
+    requires place { p < frame.now.places }
+    requires within { lit / 2 < frame.now.places }
+    requires variables { frame.now.base + frame.now.places ≤ cnf.old.vars }
     ensures vars { cnf.new.vars ≡ cnf.old.vars }
-    ensures ok { OnOk result (cnf.new.clauses ≡ cnf.old.clauses ++ (literal_in n t (literal p true) ∷ literal_in n t lit ∷ []) ∷ []) }
+    ensures ok { OnOk result (cnf.new.clauses ≡ cnf.old.clauses ++ (literal_in frame.now.places frame.now.number (literal p true) ∷ literal_in frame.now.places frame.now.number lit ∷ []) ∷ []) }
 {
-    add_two(
-        cnf,
-        place_literal(n, t, base, p, true),
-        literal_in(n, t, base, lit),
-    )
+    add_two(cnf, frame.place(p, true), frame.literal(lit))
 }
 
 // Both literals together give the variable.
-fn add_given(
-    cnf: &mut Cnf,
-    n: u32,
-    t: u32,
-    base: u32,
-    p: u32,
-    left: Lit,
-    right: Lit,
-) -> Result<(), AllocError>
-    requires base { base ≡ t * n }
-    requires place { p < n }
-    requires left { left / 2 < n }
-    requires right { right / 2 < n }
-    requires room { base + n < 2147483648 }
-    requires variables { base + n ≤ cnf.old.vars }
+fn add_given(cnf: &mut Cnf, frame: &Frame, p: u32, left: Lit, right: Lit) -> Result<(), AllocError>
+    requires place { p < frame.now.places }
+    requires left { left / 2 < frame.now.places }
+    requires right { right / 2 < frame.now.places }
+    requires variables { frame.now.base + frame.now.places ≤ cnf.old.vars }
     ensures vars { cnf.new.vars ≡ cnf.old.vars }
-    ensures ok { OnOk result (cnf.new.clauses ≡ cnf.old.clauses ++ (literal_in n t (literal p false) ∷ literal_in n t (negated left) ∷ literal_in n t (negated right) ∷ []) ∷ []) }
+    ensures ok { OnOk result (cnf.new.clauses ≡ cnf.old.clauses ++ (literal_in frame.now.places frame.now.number (literal p false) ∷ literal_in frame.now.places frame.now.number (negated left) ∷ literal_in frame.now.places frame.now.number (negated right) ∷ []) ∷ []) }
 {
     add_three(
         cnf,
-        place_literal(n, t, base, p, false),
-        literal_in(n, t, base, left.not()),
-        literal_in(n, t, base, right.not()),
+        frame.place(p, false),
+        frame.literal(left.not()),
+        frame.literal(right.not()),
     )
 }
 
 // A gate's three clauses.
-fn add_gate(
-    cnf: &mut Cnf,
-    n: u32,
-    t: u32,
-    base: u32,
-    p: u32,
-    left: Lit,
-    right: Lit,
-) -> Result<(), AllocError>
-    requires base { base ≡ t * n }
-    requires place { p < n }
-    requires left { left / 2 < n }
-    requires right { right / 2 < n }
-    requires room { base + n < 2147483648 }
-    requires variables { base + n ≤ cnf.old.vars }
+fn add_gate(cnf: &mut Cnf, frame: &Frame, p: u32, left: Lit, right: Lit) -> Result<(), AllocError>
+    requires place { p < frame.now.places }
+    requires left { left / 2 < frame.now.places }
+    requires right { right / 2 < frame.now.places }
+    requires variables { frame.now.base + frame.now.places ≤ cnf.old.vars }
     ensures vars { cnf.new.vars ≡ cnf.old.vars }
-    ensures ok { OnOk result (cnf.new.clauses ≡ cnf.old.clauses ++ ((literal_in n t (literal p true) ∷ literal_in n t left ∷ []) ∷ (literal_in n t (literal p true) ∷ literal_in n t right ∷ []) ∷ (literal_in n t (literal p false) ∷ literal_in n t (negated left) ∷ literal_in n t (negated right) ∷ []) ∷ [])) }
+    ensures ok { OnOk result (cnf.new.clauses ≡ cnf.old.clauses ++ cell_clauses (literal_in frame.now.places) false frame.now.number p (Product left right)) }
 {
-    add_needs(cnf, n, t, base, p, left)?;
-    add_needs(cnf, n, t, base, p, right)?;
-    add_given(cnf, n, t, base, p, left, right)
+    add_needs(cnf, frame, p, left)?;
+    add_needs(cnf, frame, p, right)?;
+    add_given(cnf, frame, p, left, right)
 }
 
-// A latch is equal in frame 0 to the one as which it starts.
-fn add_like(cnf: &mut Cnf, n: u32, p: u32, q: u32) -> Result<(), AllocError>
-    requires place { p < n }
-    requires partner { q < n }
-    requires room { n < 2147483648 }
-    requires variables { n ≤ cnf.old.vars }
+// A latch is equal in the first frame to the one as which it starts.
+fn add_like(cnf: &mut Cnf, frame: &Frame, p: u32, q: u32) -> Result<(), AllocError>
+    requires first { frame.now.number ≡ 0 }
+    requires place { p < frame.now.places }
+    requires partner { q < frame.now.places }
+    requires variables { frame.now.places ≤ cnf.old.vars }
     ensures vars { cnf.new.vars ≡ cnf.old.vars }
-    ensures ok { OnOk result (cnf.new.clauses ≡ cnf.old.clauses ++ start_clauses (literal_in n) (Like q) p) }
+    ensures ok { OnOk result (cnf.new.clauses ≡ cnf.old.clauses ++ start_clauses (literal_in frame.now.places) (Like q) p) }
 {
-    add_two(
-        cnf,
-        place_literal(n, 0, 0, p, true),
-        place_literal(n, 0, 0, q, false),
-    )?;
-    add_two(
-        cnf,
-        place_literal(n, 0, 0, p, false),
-        place_literal(n, 0, 0, q, true),
-    )
+    add_two(cnf, frame.place(p, true), frame.place(q, false))?;
+    add_two(cnf, frame.place(p, false), frame.place(q, true))
 }
 
-// A latch's clauses in frame 0.
-fn add_start(
-    cnf: &mut Cnf,
-    from_reset: bool,
-    n: u32,
-    p: u32,
+// A latch: its place, how it starts, and its next literal.
+#[derive(Clone, Copy)]
+struct Latch {
+    place: u32,
     start: Start,
     next: Lit,
-) -> Result<(), AllocError>
-    requires place { p < n }
-    requires behind { IsBehind p start }
-    requires room { n < 2147483648 }
-    requires variables { n ≤ cnf.old.vars }
+}
+
+// A latch's clauses in the first frame.
+fn add_start(cnf: &mut Cnf, frame: &Frame, from_reset: bool, latch: Latch) -> Result<(), AllocError>
+    requires first { frame.now.number ≡ 0 }
+    requires place { latch.place < frame.now.places }
+    requires behind { IsBehind latch.place latch.start }
+    requires variables { frame.now.base + frame.now.places ≤ cnf.old.vars }
     ensures vars { cnf.new.vars ≡ cnf.old.vars }
-    ensures ok { OnOk result (cnf.new.clauses ≡ cnf.old.clauses ++ latch_clauses (literal_in n) from_reset 0 p start next) }
+    ensures ok { OnOk result (cnf.new.clauses ≡ cnf.old.clauses ++ latch_clauses (literal_in frame.now.places) from_reset 0 latch.place latch.start latch.next) }
 {
     if from_reset {
-        match start {
-            Start::Zero => add_one(cnf, place_literal(n, 0, 0, p, true))?,
-            Start::One => add_one(cnf, place_literal(n, 0, 0, p, false))?,
+        match latch.start {
+            Start::Zero => add_one(cnf, frame.place(latch.place, true))?,
+            Start::One => add_one(cnf, frame.place(latch.place, false))?,
             Start::Free => {}
-            Start::Like(q) => add_like(cnf, n, p, q)?,
+            Start::Like(q) => add_like(cnf, frame, latch.place, q)?,
         }
     }
     Ok(())
 }
 
-// A latch's clauses in the frame after frame t.
-fn add_next(
-    cnf: &mut Cnf,
-    from_reset: bool,
-    n: u32,
-    t: u32,
-    base: u32,
-    p: u32,
-    start: Start,
-    next: Lit,
-) -> Result<(), AllocError>
-    requires base { base ≡ t * n }
-    requires place { p < n }
-    requires next { next / 2 < n }
-    requires room { base + 2 * n < 2147483648 }
-    requires variables { base + 2 * n ≤ cnf.old.vars }
+// A latch's clauses in the frame after this one.
+fn add_next(cnf: &mut Cnf, frame: &Frame, from_reset: bool, latch: Latch) -> Result<(), AllocError>
+    requires place { latch.place < frame.now.places }
+    requires next { latch.next / 2 < frame.now.places }
+    requires room { frame.now.base + 2 * frame.now.places < 2147483648 }
+    requires variables { frame.now.base + 2 * frame.now.places ≤ cnf.old.vars }
     ensures vars { cnf.new.vars ≡ cnf.old.vars }
-    ensures ok { OnOk result (cnf.new.clauses ≡ cnf.old.clauses ++ latch_clauses (literal_in n) from_reset (t + 1) p start next) }
+    ensures ok { OnOk result (cnf.new.clauses ≡ cnf.old.clauses ++ latch_clauses (literal_in frame.now.places) from_reset (frame.now.number + 1) latch.place latch.start latch.next) }
 {
-    let after = base + n;
+    let after = Frame {
+        places: frame.places,
+        number: frame.number + 1,
+        base: frame.base + frame.places,
+    };
     add_two(
         cnf,
-        place_literal(n, t + 1, after, p, true),
-        literal_in(n, t, base, next),
+        after.place(latch.place, true),
+        frame.literal(latch.next),
     )?;
     add_two(
         cnf,
-        place_literal(n, t + 1, after, p, false),
-        literal_in(n, t, base, next.not()),
+        after.place(latch.place, false),
+        frame.literal(latch.next.not()),
     )
 }
 
 // A latch's clauses.
-fn add_latch(
-    cnf: &mut Cnf,
-    from_reset: bool,
-    n: u32,
-    t: u32,
-    base: u32,
-    p: u32,
-    start: Start,
-    next: Lit,
-) -> Result<(), AllocError>
-    requires base { base ≡ t * n }
-    requires place { p < n }
-    requires behind { IsBehind p start }
-    requires next { next / 2 < n }
-    requires room { base + n < 2147483648 }
-    requires variables { base + n ≤ cnf.old.vars }
+fn add_latch(cnf: &mut Cnf, frame: &Frame, from_reset: bool, latch: Latch) -> Result<(), AllocError>
+    requires place { latch.place < frame.now.places }
+    requires behind { IsBehind latch.place latch.start }
+    requires next { latch.next / 2 < frame.now.places }
+    requires variables { frame.now.base + frame.now.places ≤ cnf.old.vars }
     ensures vars { cnf.new.vars ≡ cnf.old.vars }
-    ensures ok { OnOk result (cnf.new.clauses ≡ cnf.old.clauses ++ latch_clauses (literal_in n) from_reset t p start next) }
+    ensures ok { OnOk result (cnf.new.clauses ≡ cnf.old.clauses ++ latch_clauses (literal_in frame.now.places) from_reset frame.now.number latch.place latch.start latch.next) }
 {
-    if t == 0 {
-        add_start(cnf, from_reset, n, p, start, next)
-    } else {
-        add_next(cnf, from_reset, n, t - 1, base - n, p, start, next)
+    if frame.number == 0 {
+        return add_start(cnf, frame, from_reset, latch);
     }
+    let before = Frame {
+        places: frame.places,
+        number: frame.number - 1,
+        base: frame.base - frame.places,
+    };
+    add_next(cnf, &before, from_reset, latch)
 }
 
-// The clauses of the cell at place p in frame t, whose variables begin past `base`.
+// The clauses of the cell at place p in a frame.
 fn add_cell(
     cnf: &mut Cnf,
-    cell: Cell,
+    frame: &Frame,
     from_reset: bool,
-    n: u32,
-    t: u32,
-    base: u32,
     p: u32,
+    cell: Cell,
 ) -> Result<(), AllocError>
-    requires base { base ≡ t * n }
-    requires place { p < n }
-    requires rests { Rests n p cell }
-    requires room { base + n < 2147483648 }
-    requires variables { base + n ≤ cnf.old.vars }
+    requires place { p < frame.now.places }
+    requires rests { Rests frame.now.places p cell }
+    requires variables { frame.now.base + frame.now.places ≤ cnf.old.vars }
     ensures vars { cnf.new.vars ≡ cnf.old.vars }
-    ensures ok { OnOk result (cnf.new.clauses ≡ cnf.old.clauses ++ cell_clauses (literal_in n) from_reset t p cell) }
+    ensures ok { OnOk result (cnf.new.clauses ≡ cnf.old.clauses ++ cell_clauses (literal_in frame.now.places) from_reset frame.now.number p cell) }
 {
     match cell {
-        Cell::Low => add_one(cnf, place_literal(n, t, base, p, true))?,
+        Cell::Low => add_one(cnf, frame.place(p, true))?,
         Cell::Given => {}
-        Cell::Held(start, next) => add_latch(cnf, from_reset, n, t, base, p, start, next)?,
-        Cell::Product(left, right) => add_gate(cnf, n, t, base, p, left, right)?,
+        Cell::Held(start, next) => {
+            let place = p;
+            add_latch(cnf, frame, from_reset, Latch { place, start, next })?
+        }
+        Cell::Product(left, right) => add_gate(cnf, frame, p, left, right)?,
     }
     Ok(())
 }
 
-// The clauses of frame t, whose variables begin past `base`.
+// The clauses of a frame.
 fn add_frame(
     cnf: &mut Cnf,
-    cells: &[Cell],
+    frame: &Frame,
     from_reset: bool,
-    t: u32,
-    base: u32,
+    cells: &[Cell],
 ) -> Result<(), AllocError>
-    requires base { base ≡ t * length cells.now }
+    requires places { frame.now.places ≡ length cells.now }
     requires arranged { IsArranged cells.now }
-    requires room { base + length cells.now < 2147483648 }
-    requires variables { base + length cells.now ≤ cnf.old.vars }
+    requires variables { frame.now.base + frame.now.places ≤ cnf.old.vars }
     ensures vars { cnf.new.vars ≡ cnf.old.vars }
-    ensures ok { OnOk result (cnf.new.clauses ≡ cnf.old.clauses ++ frame_clauses (literal_in (length cells.now)) from_reset cells.now t) }
+    ensures ok { OnOk result (cnf.new.clauses ≡ cnf.old.clauses ++ frame_clauses (literal_in (length cells.now)) from_reset cells.now frame.now.number) }
 {
-    let n = cells.len() as u32;
-    for p in 0..n {
-        add_cell(cnf, cells[p as usize], from_reset, n, t, base, p)?;
+    for p in 0..frame.places {
+        add_cell(cnf, frame, from_reset, p, cells[p as usize])?;
     }
     Ok(())
 }
@@ -250,10 +201,13 @@ pub(crate) fn add_frames(
     ensures ok { OnOk result (cnf.new.clauses ≡ cnf.old.clauses ++ frames (literal_in (length cells.now)) from_reset cells.now count) }
 {
     let n = cells.len() as u32;
-    let mut base = 0;
     for t in 0..count {
-        add_frame(cnf, cells, from_reset, t, base)?;
-        base += n;
+        let frame = Frame {
+            places: n,
+            number: t,
+            base: t * n,
+        };
+        add_frame(cnf, &frame, from_reset, cells)?;
     }
     Ok(())
 }

@@ -1,10 +1,9 @@
 //! The needed pairs of classes, and the clauses that say that they hold.
 ghost use Rattle.std.specs.Prelude.{◌≡◌, ◌<◌, ◌≤◌, ◌+◌, ◌*◌, ◌/◌, ◌++◌, ◌∷◌, [], ℕ, OnOk, IfOk, All, length, flat_map};
-ghost use Rattle.circ_model.specs.Meaning.{negated};
 ghost use Rattle.frame_unroll.specs.Frames.{literal_in, equal_clauses, class_clauses};
 ghost use Rattle.frame_unroll.specs.Members.{member_pair, member_pairs};
 
-use crate::adding::{add_two, literal_in};
+use crate::adding::{Frame, add_two};
 use circ_model::Lit;
 use class_partition::Classes;
 use cnf_store::Cnf;
@@ -38,78 +37,38 @@ pub(crate) fn needed_of(alloc: Global, classes: &Classes) -> Result<Vec<(Lit, Li
     Ok(pairs)
 }
 
-// Where the first literal holds, so does the second.
-fn add_implies(cnf: &mut Cnf, n: u32, t: u32, base: u32, a: Lit, b: Lit) -> Result<(), AllocError>
-    requires base { base ≡ t * n }
-    requires left { a / 2 < n }
-    requires right { b / 2 < n }
-    requires room { base + n < 2147483648 }
-    requires variables { base + n ≤ cnf.old.vars }
+// One of two literals holds in a frame.
+fn add_either(cnf: &mut Cnf, frame: &Frame, a: Lit, b: Lit) -> Result<(), AllocError>
+    requires left { a / 2 < frame.now.places }
+    requires right { b / 2 < frame.now.places }
+    requires variables { frame.now.base + frame.now.places ≤ cnf.old.vars }
     ensures vars { cnf.new.vars ≡ cnf.old.vars }
-    ensures ok { OnOk result (cnf.new.clauses ≡ cnf.old.clauses ++ (literal_in n t (negated a) ∷ literal_in n t b ∷ []) ∷ []) }
+    ensures ok { OnOk result (cnf.new.clauses ≡ cnf.old.clauses ++ (literal_in frame.now.places frame.now.number a ∷ literal_in frame.now.places frame.now.number b ∷ []) ∷ []) }
 {
-    add_two(
-        cnf,
-        literal_in(n, t, base, a.not()),
-        literal_in(n, t, base, b),
-    )
+    add_two(cnf, frame.literal(a), frame.literal(b))
 }
 
-// Where the second holds, so does the first.
-fn add_implied(cnf: &mut Cnf, n: u32, t: u32, base: u32, a: Lit, b: Lit) -> Result<(), AllocError>
-    requires base { base ≡ t * n }
-    requires left { a / 2 < n }
-    requires right { b / 2 < n }
-    requires room { base + n < 2147483648 }
-    requires variables { base + n ≤ cnf.old.vars }
+// That two literals are equal in a frame: where one holds, so does the other.
+fn add_equal(cnf: &mut Cnf, frame: &Frame, rep: Lit, member: Lit) -> Result<(), AllocError>
+    requires left { rep / 2 < frame.now.places }
+    requires right { member / 2 < frame.now.places }
+    requires variables { frame.now.base + frame.now.places ≤ cnf.old.vars }
     ensures vars { cnf.new.vars ≡ cnf.old.vars }
-    ensures ok { OnOk result (cnf.new.clauses ≡ cnf.old.clauses ++ (literal_in n t a ∷ literal_in n t (negated b) ∷ []) ∷ []) }
+    ensures ok { OnOk result (cnf.new.clauses ≡ cnf.old.clauses ++ equal_clauses (literal_in frame.now.places) frame.now.number (rep, member)) }
 {
-    add_two(
-        cnf,
-        literal_in(n, t, base, a),
-        literal_in(n, t, base, b.not()),
-    )
+    add_either(cnf, frame, member.not(), rep)?;
+    add_either(cnf, frame, member, rep.not())
 }
 
-// That two literals are equal in frame t.
-fn add_equal(
-    cnf: &mut Cnf,
-    n: u32,
-    t: u32,
-    base: u32,
-    rep: Lit,
-    member: Lit,
-) -> Result<(), AllocError>
-    requires base { base ≡ t * n }
-    requires left { rep / 2 < n }
-    requires right { member / 2 < n }
-    requires room { base + n < 2147483648 }
-    requires variables { base + n ≤ cnf.old.vars }
+// That needed pairs are equal in a frame.
+fn add_equals(cnf: &mut Cnf, frame: &Frame, needed: &[(Lit, Lit)]) -> Result<(), AllocError>
+    requires literals { All (λ p. (p.0 / 2 < frame.now.places) × (p.1 / 2 < frame.now.places)) needed.now }
+    requires variables { frame.now.base + frame.now.places ≤ cnf.old.vars }
     ensures vars { cnf.new.vars ≡ cnf.old.vars }
-    ensures ok { OnOk result (cnf.new.clauses ≡ cnf.old.clauses ++ equal_clauses (literal_in n) t (rep, member)) }
-{
-    add_implies(cnf, n, t, base, member, rep)?;
-    add_implied(cnf, n, t, base, member, rep)
-}
-
-// That needed pairs are equal in frame t.
-fn add_equals(
-    cnf: &mut Cnf,
-    n: u32,
-    t: u32,
-    base: u32,
-    needed: &[(Lit, Lit)],
-) -> Result<(), AllocError>
-    requires base { base ≡ t * n }
-    requires literals { All (λ p. (p.0 / 2 < n) × (p.1 / 2 < n)) needed.now }
-    requires room { base + n < 2147483648 }
-    requires variables { base + n ≤ cnf.old.vars }
-    ensures vars { cnf.new.vars ≡ cnf.old.vars }
-    ensures ok { OnOk result (cnf.new.clauses ≡ cnf.old.clauses ++ flat_map (equal_clauses (literal_in n) t) needed.now) }
+    ensures ok { OnOk result (cnf.new.clauses ≡ cnf.old.clauses ++ flat_map (equal_clauses (literal_in frame.now.places) frame.now.number) needed.now) }
 {
     for i in 0..needed.len() {
-        add_equal(cnf, n, t, base, needed[i].0, needed[i].1)?;
+        add_equal(cnf, frame, needed[i].0, needed[i].1)?;
     }
     Ok(())
 }
@@ -128,7 +87,12 @@ pub(crate) fn add_classes(
     ensures ok { OnOk result (cnf.new.clauses ≡ cnf.old.clauses ++ class_clauses (literal_in n) k needed.now) }
 {
     for t in 0..k {
-        add_equals(cnf, n, t, t * n, needed)?;
+        let frame = Frame {
+            places: n,
+            number: t,
+            base: t * n,
+        };
+        add_equals(cnf, &frame, needed)?;
     }
     Ok(())
 }

@@ -8,7 +8,7 @@ ghost use Rattle.cnf_store.specs.Clauses.{IsFormula, IsLiteral as IsClauseLitera
 ghost use Rattle.frame_unroll.specs.Frames.{literal_in, values};
 ghost use Rattle.frame_unroll.specs.Unrolled.{Unrolling, IsSought, IsUnrolling, AreFramesOf, asked_clauses, asking, clauses_of, variables_of, formula_of, from_reset, after_classes};
 
-use crate::adding::literal_in;
+use crate::adding::Frame;
 use crate::cells::add_frames;
 use crate::equalities::{add_classes, needed_of};
 use crate::path::{part_of, read_path};
@@ -123,8 +123,13 @@ impl<'p> Unrolled<'p> {
         ensures value { result ≡ literal_in (places_of self.now.pair) frame lit }
         ensures is { IsClauseLiteral (self.now.frames * places_of self.now.pair) result }
     {
-        let n = self.product.len();
-        literal_in(n, frame, frame * n, lit)
+        let places = self.product.len();
+        let at = Frame {
+            places,
+            number: frame,
+            base: frame * places,
+        };
+        at.literal(lit)
     }
 
     /// The clauses: those of the frames, in the order of frames and places, those of the needed pairs, and those of the
@@ -161,8 +166,9 @@ impl<'p> Unrolled<'p> {
         let n = product.len();
         let count = last - first + 1;
         let used = self.count * n;
+        let asked = Question { a, b, first, count };
         self.cnf.add_vars(count);
-        match add_asked(alloc, &mut self.cnf, n, used, a, b, first, count) {
+        match add_asked(alloc, &mut self.cnf, n, used, asked) {
             Ok(()) => {
                 self.question = Some(Question { a, b, first, count });
                 Ok(())
@@ -182,12 +188,11 @@ impl<'p> Unrolled<'p> {
         ensures pair { IsSoundPair self.now.pair }
         ensures fine { IsUnrolling (asking self.now question) }
     {
-        let Question { a, b, first, count } = question;
         let product = self.product;
         let n = product.len();
         let used = self.count * n;
-        let mut own = Cnf::new(alloc, used + count)?;
-        add_asked(alloc, &mut own, n, used, a, b, first, count)?;
+        let mut own = Cnf::new(alloc, used + question.count)?;
+        add_asked(alloc, &mut own, n, used, question)?;
         Ok(own)
     }
 

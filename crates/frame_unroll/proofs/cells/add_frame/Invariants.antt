@@ -7,5 +7,5 @@ use Rattle.frame_unroll.proofs.cells.add_frame.Given as goal
 
 abbrev pub invariant-loop-p : goal.invariant-loop-p
 invariant-loop-p l =
-    (l.n ≡ length l.cells) × (l.cnf.vars ≡ l.initial.cnf.vars)
-    × (l.cnf.clauses ≡ l.initial.cnf.clauses ++ flat_map (λ p. cell_clauses (literal_in (length l.cells)) l.from_reset l.t p (get_or l.cells p Low)) (range_with_len 0 l.p))
+    (l.cnf.vars ≡ l.initial.cnf.vars)
+    × (l.cnf.clauses ≡ l.initial.cnf.clauses ++ flat_map (λ p. cell_clauses (literal_in (length l.cells)) l.from_reset l.frame.number p (get_or l.cells p Low)) (range_with_len 0 l.p))

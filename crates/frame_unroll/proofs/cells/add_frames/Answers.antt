@@ -6,7 +6,6 @@ use Rattle.frame_unroll.proofs.cells.add_frames.Goals as goal
 pub loop-t-preserved : goal.loop-t-preserved
 loop-t-preserved c = (
   omega arith,
-  omega (arith, c.loop-t.invariant.1),
-  c.add_frame.ensures.vars ∙ c.loop-t.invariant.2,
-  added_more (frame_clauses (literal_in (length c.args.cells.now)) c.args.from_reset c.args.cells.now) c.args.cnf.now.clauses c.loop-t.cnf.clauses c.add_frame.new.cnf.clauses c.loop-t.t c.loop-t.invariant.3 c.in_ok-add_frame.ensures.ok,
+  c.add_frame.ensures.vars ∙ c.loop-t.invariant.1,
+  added_more (frame_clauses (literal_in (length c.args.cells.now)) c.args.from_reset c.args.cells.now) c.args.cnf.now.clauses c.loop-t.cnf.clauses c.add_frame.new.cnf.clauses c.loop-t.t c.loop-t.invariant.2 c.in_ok-add_frame.ensures.ok,
 )

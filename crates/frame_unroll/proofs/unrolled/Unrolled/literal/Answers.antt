@@ -9,7 +9,7 @@ use Rattle.frame_unroll.proofs.unrolled.Unrolled.literal.Goals as goal
 pub returns-clause-is : goal.returns-clause-is
 returns-clause-is c =
     let u = c.args.self.now in
-    let n = c.len-n.ensures.places ∙ ap (λ (v : Unrolling). places_of v.pair) c.self.view_is in
-    let fits : c.args.frame * c.len-n.result + c.len-n.result ≤ u.frames * places_of u.pair = frame_fits c.args.frame u.frames c.len-n.result (places_of u.pair) (u.frames * places_of u.pair) n c.requires.within (omega arith) in
-    let f : FitsSigned w32 c.literal_in.result = search rules in
-    subst (IsLiteral (u.frames * places_of u.pair)) (sym (to_z-of_z w32 c.literal_in.result f)) (c.literal_in.ensures.some, omega (arith, c.literal_in.ensures.within, fits))
+    let n = c.len-places.ensures.places ∙ ap (λ (v : Unrolling). places_of v.pair) c.self.view_is in
+    let fits : c.args.frame * c.len-places.result + c.len-places.result ≤ u.frames * places_of u.pair = frame_fits c.args.frame u.frames c.len-places.result (places_of u.pair) (u.frames * places_of u.pair) n c.requires.within (omega arith) in
+    let f : FitsSigned w32 c.literal.result = search rules in
+    subst (IsLiteral (u.frames * places_of u.pair)) (sym (to_z-of_z w32 c.literal.result f)) (c.literal.ensures.some, omega (arith, c.literal.ensures.within, fits))
