@@ -3,7 +3,7 @@ use Rattle.std.proofs.Common.{◌≡◌, ℕ, zero, suc, ◌+◌, ◌-◌, ◌<�
 use Rattle.std.specs.Prelude.{Ok}
 use Rattle.std.proofs.lemmas.Bool.{eq-eqb, eqb-true, le-leb}
 use Rattle.std.proofs.lemmas.List.{get_or-drop}
-use Rattle.aiger_codec.specs.Numbers.{digits, capped, value_from, number_of, number_at}
+use Rattle.plain_text.specs.Numbers.{digits, capped, value_from, number_of, number_at}
 use Rattle.aiger_codec.specs.Lines.{has_end, before_others, after_number, numbers_at, line_at}
 
 -- which of two values a choice is

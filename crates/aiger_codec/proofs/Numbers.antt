@@ -1,7 +1,7 @@
 -- Numbers of a line, one after the other.
 use Rattle.std.proofs.Common.{◌≡◌, ℕ, suc, ◌+◌, ◌-◌, ◌<◌, ◌≤◌, ◌≢◌, List, [], ◌∷◌, ◌++◌, get_or, Option, Some, None, refl, sym, ap, ◌∙◌, arith, append_assoc}
 use Rattle.std.proofs.lemmas.Bool.{eq-eqb, ne_eqb}
-use Rattle.aiger_codec.specs.Numbers.{number_at}
+use Rattle.plain_text.specs.Numbers.{number_at}
 use Rattle.aiger_codec.specs.Lines.{before_others, numbers_at}
 
 abbrev pub with_front : List ℕ → Option (List ℕ × ℕ) → Option (List ℕ × ℕ)

@@ -1,12 +1,13 @@
 -- What is read is spelled so, and what is spelled so is read.
 use Rattle.std.proofs.Common.{◌≡◌, ℕ, zero, suc, ◌+◌, ◌<◌, ◌≤◌, inl, inr, Bool, true, false, cond, leb, ◌&&◌, List, [], ◌∷◌, ◌++◌, length, drop, get_or, Some, refl, sym, ap, subst, ◌∙◌, arith, append_assoc, length-append, add-one, drop-cons}
 use Rattle.std.specs.List.{AllByRecursion}
-use Rattle.std.proofs.lemmas.Bool.{cases_lt, eq-eqb, ne_eqb, leb-true, le-leb}
+use Rattle.std.proofs.lemmas.Bool.{cases_lt, eq-eqb, ne_eqb, leb-true}
 use Rattle.std.proofs.lemmas.List.{get_or-drop, get_or_past, drop-drop}
 use Rattle.std.proofs.Math.Seq.{get_or-append_seam, drop-append-add}
-use Rattle.aiger_codec.specs.Numbers.{is_digit, digits, capped, value_from, number_of, number_at}
+use Rattle.plain_text.specs.Numbers.{IsDigit, is_digit, digits, capped, value_from, number_of, number_at}
+use Rattle.plain_text.proofs.Again.{is_of_digit}
 use Rattle.aiger_codec.specs.Lines.{numbers_at}
-use Rattle.aiger_codec.specs.Grammar.{IsDigit, SpellsNumber, SpellsLine}
+use Rattle.aiger_codec.specs.Grammar.{SpellsNumber, SpellsLine}
 use Rattle.aiger_codec.proofs.Ends.{some_is, first_of, others_of}
 
 -- a text stands at a place
@@ -19,9 +20,6 @@ and_both false b e = absurd cc
 
 digit_is : (b : ℕ) → is_digit b ≡ true → IsDigit b
 digit_is b e = let h = and_both (leb 48 b) (leb b 57) e in (leb-true _ _ h.0, leb-true _ _ h.1)
-
-pub is_of_digit : (b : ℕ) → IsDigit b → is_digit b ≡ true
-is_of_digit b h = let a : leb 48 b ≡ true = le-leb _ _ h.0 in let c : leb b 57 ≡ true = le-leb _ _ h.1 in rw (a, c) refl
 
 -- the digits at the front are digits, and begin the bytes
 pub digits_front : (bs : List ℕ) → AllByRecursion IsDigit (digits bs) × (bs ≡ digits bs ++ drop (length (digits bs)) bs)

@@ -2,15 +2,12 @@
 -- says, apart from the readers.
 use Rattle.std.specs.Prelude.{◌≡◌, ℕ, zero, suc, ◌+◌, ◌<◌, ◌≤◌, Bool, true, false, List, [], ◌∷◌, ◌++◌, length, slice_index, codes}
 use Rattle.std.specs.List.{AllByRecursion}
-use Rattle.aiger_codec.specs.Numbers.{capped, value_from}
+use Rattle.plain_text.specs.Numbers.{IsDigit, capped, value_from}
 use Rattle.aiger_codec.specs.Header.{IsWithinLimits}
 use Rattle.aiger_codec.specs.Lines.{has_end}
 use Rattle.aiger_codec.specs.Symbols.{count_of}
 use Rattle.aiger_codec.specs.declared.header.Header.{Header}
 use Rattle.aiger_codec.specs.declared.symbols.Counts.{Counts}
-
-abbrev pub IsDigit : ℕ → Type 0
-IsDigit b = (48 ≤ b) × (b ≤ 57)
 
 -- one or more decimal digits; a value past 4294967295 counts as 4294967295
 pub record SpellsNumber (text : List ℕ) (n : ℕ) : Type 0 where

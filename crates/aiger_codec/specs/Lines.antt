@@ -1,6 +1,6 @@
 -- Lines of numbers, with the first fault.
 use Rattle.std.specs.Prelude.{ℕ, zero, suc, ◌+◌, Bool, true, false, ◌==◌, leb, if◌then◌else◌, List, [], ◌∷◌, length, drop, Option, Some, None, Result, Ok, Err, slice_index}
-use Rattle.aiger_codec.specs.Numbers.{number_at}
+use Rattle.plain_text.specs.Numbers.{number_at}
 use Rattle.aiger_codec.specs.declared.fault.NetFault.{NetFault}
 use Rattle.aiger_codec.specs.declared.fault.NetKind.{NetKind}
 use Rattle.aiger_codec.specs.declared.fault.NetKind.TheVariants.{Line, Truncated}

@@ -1,6 +1,6 @@
 -- What stands after the body: symbol lines, and a comment.
 use Rattle.std.specs.Prelude.{ℕ, zero, suc, ◌+◌, ◌==◌, ◌&&◌, ltb, Bool, true, false, if◌then◌else◌, List, [], ◌∷◌, length, drop, Option, Some, None, Result, Ok, Err, slice_index}
-use Rattle.aiger_codec.specs.Numbers.{number_at}
+use Rattle.plain_text.specs.Numbers.{number_at}
 use Rattle.aiger_codec.specs.Lines.{fault}
 use Rattle.aiger_codec.specs.declared.fault.NetFault.{NetFault}
 use Rattle.aiger_codec.specs.declared.fault.NetKind.TheVariants.{Truncated, Symbol}

@@ -27,12 +27,12 @@ pub struct Header {
 fn form(bytes: &[u8]) -> Option<bool>
     ensures { result ≡ form_of bytes.now }
 {
-    if bytes.len() < 3 || bytes[0] != 97 || bytes[2] != 103 {
+    if bytes.len() < 3 || bytes[0] != b'a' || bytes[2] != b'g' {
         return None;
     }
     match bytes[1] {
-        105 => Some(true),
-        97 => Some(false),
+        b'i' => Some(true),
+        b'a' => Some(false),
         _ => None,
     }
 }
@@ -57,7 +57,7 @@ fn header_numbers_from(bytes: &[u8], into: &mut [u32; 9]) -> Option<(usize, usiz
     ensures value { MatchOption result (header_numbers bytes.now ≡ None) (λ r. (r.0 ≤ 9) × (header_numbers bytes.now ≡ Some (take r.0 into.new, r.1))) }
     ensures within { IfSome result (λ r. r.1 ≤ length bytes.now) }
 {
-    if bytes.len() < 4 || bytes[3] != 32 {
+    if bytes.len() < 4 || bytes[3] != b' ' {
         return None;
     }
     numbers_from(bytes, 4, 9, into)

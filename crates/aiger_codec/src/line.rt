@@ -1,16 +1,16 @@
 // Lines of numbers. They go into an array that outlives the lines, so that a line costs no memory.
 ghost use Rattle.std.specs.Prelude.{◌≡◌, ◌≤◌, ◌<◌, take, drop, length, MatchOption, MatchResult, IfSome, Some, None, Ok, Err, IsTrue};
-ghost use Rattle.aiger_codec.specs.Numbers.{number_at};
+ghost use Rattle.plain_text.specs.Numbers.{number_at};
 ghost use Rattle.aiger_codec.specs.Lines.{has_end, numbers_at, line_at};
 
 use crate::fault::{NetFault, NetKind};
-use crate::number::number_from;
+use plain_text::number_from;
 
 pub fn ends(bytes: &[u8]) -> bool
     ensures { result ≡ has_end bytes.now }
 {
     for b in bytes {
-        if *b == 10 {
+        if *b == b'\n' {
             return true;
         }
     }
@@ -38,10 +38,10 @@ pub fn numbers_from(
             return None;
         }
         let separator = bytes[end];
-        if separator == 10 {
+        if separator == b'\n' {
             return Some((i + 1, end + 1));
         }
-        if separator != 32 {
+        if separator != b' ' {
             return None;
         }
         at = end + 1;

@@ -3,7 +3,7 @@ ghost use Rattle.std.specs.Prelude.{◌≡◌, ◌<◌, ◌≤◌, drop, length,
 ghost use Rattle.aiger_codec.specs.Symbols.{first_end, count_of, symbol_at, symbols_at};
 
 use crate::fault::{NetFault, NetKind};
-use crate::number::number_from;
+use plain_text::number_from;
 
 /// How many inputs, latches and outputs a netlist has.
 #[derive(Clone, Copy, Debug, PartialEq, Eq)]
@@ -18,7 +18,7 @@ fn line_end(bytes: &[u8], start: usize) -> Option<usize>
     ensures within { IfSome result (λ end. end < length bytes.now) }
 {
     for at in start..bytes.len() {
-        if bytes[at] == 10 {
+        if bytes[at] == b'\n' {
             return Some(at);
         }
     }
@@ -29,9 +29,9 @@ fn count_of(counts: &Counts, kind: u8) -> u32
     ensures { result ≡ count_of counts.now kind }
 {
     match kind {
-        105 => counts.inputs,
-        108 => counts.latches,
-        111 => counts.outputs,
+        b'i' => counts.inputs,
+        b'l' => counts.latches,
+        b'o' => counts.outputs,
         _ => 0,
     }
 }
@@ -49,7 +49,7 @@ fn read_symbol(counts: &Counts, bytes: &[u8], at: usize) -> Result<usize, NetFau
     };
     let count = count_of(counts, bytes[at]);
     if let Some((position, after)) = number_from(bytes, at + 1) {
-        if position < count && after < bytes.len() && bytes[after] == 32 {
+        if position < count && after < bytes.len() && bytes[after] == b' ' {
             return Ok(end + 1);
         }
     }
@@ -64,11 +64,8 @@ pub fn read_symbols(counts: &Counts, bytes: &[u8], start: usize) -> Result<usize
     ensures { result ≡ symbols_at (length bytes.now) counts.now bytes.now start }
 {
     let mut at = start;
-    'lines: while at < bytes.len() && bytes[at] != 99 {
-        match read_symbol(counts, bytes, at) {
-            Err(fault) => return Err(fault),
-            Ok(after) => at = after,
-        }
+    'lines: while at < bytes.len() && bytes[at] != b'c' {
+        at = read_symbol(counts, bytes, at)?;
     }
     Ok(at)
 }

@@ -1,10 +1,11 @@
 // A netlist as the text of a file. Numbers go through an array of the longest number's length, so that a line costs no
 // memory but its bytes.
-ghost use Rattle.std.specs.Prelude.{◌≡◌, ◌≤◌, ◌++◌, ◌∷◌, [], drop, length, decimal, OnOk, IfOk};
+ghost use Rattle.std.specs.Prelude.{◌≡◌, ◌++◌, ◌∷◌, [], length, decimal, OnOk, IfOk};
 ghost use Rattle.aiger_codec.specs.Writing.{more_text, line_text, lines_text, input_text, reset_numbers, latch_text, output_text, gate_text, net_text};
 
 use aig_graph::Netlist;
 use circ_model::{Gate, Latch, Lit, Reset};
+use plain_text::decimal_digits;
 use std::alloc::{AllocError, Global};
 
 /// The text of a netlist: its header, inputs, latches, outputs and gates in their order; a zero reset is left out.
@@ -98,10 +99,10 @@ pub(crate) fn push_line(first: u64, others: &[u64], into: &mut Vec<u8>) -> Resul
 {
     push_number(first, into)?;
     for i in 0..others.len() {
-        into.push(32)?;
+        into.push(b' ')?;
         push_number(others[i], into)?;
     }
-    into.push(10)?;
+    into.push(b'\n')?;
     Ok(())
 }
 
@@ -109,23 +110,6 @@ fn push_number(n: u64, into: &mut Vec<u8>) -> Result<(), AllocError>
     ensures { OnOk result (into.new.items ≡ into.old.items ++ decimal n) }
 {
     let mut digits = [0u8; 20];
-    let start = place_digits(n, &mut digits);
+    let start = decimal_digits(n, &mut digits);
     into.extend_from_slice(&digits[start..])
-}
-
-// Puts the digits at the end of the array, and answers where they begin.
-fn place_digits(n: u64, digits: &mut [u8; 20]) -> usize
-    ensures within { result ≤ 20 }
-    ensures digits { drop result digits.new ≡ decimal n }
-{
-    let mut rest = n;
-    let mut start = 20;
-    while rest >= 10 {
-        start -= 1;
-        digits[start] = b'0' + (rest % 10) as u8;
-        rest /= 10;
-    }
-    start -= 1;
-    digits[start] = b'0' + rest as u8;
-    start
 }

@@ -4,8 +4,8 @@ use Rattle.std.specs.List.{AllByRecursion}
 use Rattle.std.proofs.lemmas.Bool.{eq-eqb, ne_eqb}
 use Rattle.circ_model.specs.Meaning.{Pair, IsSoundPair, places_of}
 use Rattle.product_machine.proofs.Size.{few_places}
-use Rattle.sat_log.specs.Pieces.{pieces, last_of}
-use Rattle.sat_log.proofs.Again.{piece_again, last_again, decimal_spells, none_is}
+use Rattle.plain_text.specs.Pieces.{pieces, last_of}
+use Rattle.plain_text.proofs.Again.{piece_again, last_again, decimal_spells, none_is}
 use Rattle.corr_certificate.specs.Certificate.{head_of, head_words, tie_of}
 use Rattle.cert_writer.specs.Writing.{head_text, tie_text}
 use Rattle.cert_writer.proofs.NamesAgain.{number_again}

@@ -7,8 +7,8 @@ use Rattle.circ_model.specs.Meaning.{Pair, IsSoundPair, places_of, signed}
 use Rattle.class_partition.specs.Classes.{Classes, ArePartition, least_of, phase_of}
 use Rattle.class_partition.proofs.Signs.{signed-self}
 use Rattle.product_machine.specs.Signals.{signal_at}
-use Rattle.sat_log.specs.Pieces.{pieces, last_of}
-use Rattle.sat_log.proofs.Again.{piece_again, last_again}
+use Rattle.plain_text.specs.Pieces.{pieces, last_of}
+use Rattle.plain_text.proofs.Again.{piece_again, last_again}
 use Rattle.class_text.specs.ClassLines.{name_of, member_text, class_line, class_line_of}
 use Rattle.class_text.specs.ClassLines.{members_from as members_past}
 use Rattle.class_text.proofs.Linking.{all_members, member_here, skip_to, line_of_none, long_line}

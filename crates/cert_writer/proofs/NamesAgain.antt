@@ -1,14 +1,14 @@
 -- Numbers and names that are written are read again.
-use Rattle.std.proofs.Common.{◌≡◌, ◌≢◌, ◌∙◌, ◌<◌, ◌≤◌, ◌+◌, ◌-◌, ◌*◌, ◌^◌, ◌==◌, ◌&&◌, ◌||◌, not, ℕ, Bool, true, false, List, [], ◌∷◌, ◌++◌, length, get_or, Some, refl, sym, ap, subst, arith, ⊎_elim, decimal, Contains, codes}
+use Rattle.std.proofs.Common.{◌≡◌, ◌≢◌, ◌∙◌, ◌<◌, ◌≤◌, ◌+◌, ◌==◌, ◌&&◌, ◌||◌, not, ℕ, Bool, true, false, List, [], ◌∷◌, ◌++◌, length, get_or, Some, refl, sym, ap, subst, arith, ⊎_elim, decimal, Contains, codes}
 use Rattle.std.specs.Prelude.{slice_index}
 use Rattle.std.specs.List.{AllByRecursion}
 use Rattle.std.proofs.lemmas.Bool.{eq-eqb, ne_eqb, cases_eq}
 use Rattle.std.proofs.lemmas.Fmt.{decimal_digit, first_decimal}
 use Rattle.std.proofs.lemmas.List.{get_or_default, get_or-append-add}
-use Rattle.aiger_codec.specs.Numbers.{digits, number_at}
-use Rattle.aiger_codec.specs.Numbers.{value_from as codec_value}
-use Rattle.aiger_codec.specs.Grammar.{IsDigit, SpellsNumber}
-use Rattle.aiger_codec.proofs.Spelled.{is_of_digit, number_made}
+use Rattle.plain_text.specs.Numbers.{number_at}
+use Rattle.plain_text.proofs.Again.{decimal_spells, digits_whole, none_is}
+use Rattle.aiger_codec.proofs.Spelled.{number_made}
+use Rattle.aiger_codec.proofs.WrittenLines.{number_spelled}
 use Rattle.circ_model.specs.declared.netlist.Signal.{Signal}
 use Rattle.circ_model.specs.declared.netlist.Signal.TheVariants.{Const, Input, Left, Right}
 use Rattle.circ_model.specs.Netlist.{Netlist, IsSound, variables, own}
@@ -18,24 +18,9 @@ use Rattle.product_machine.specs.Cells.{signals}
 use Rattle.product_machine.specs.Signals.{signal_at}
 use Rattle.product_machine.proofs.Size.{few_places, length_signals}
 use Rattle.product_machine.proofs.Signalling.{holds_input, holds_left, holds_right}
-use Rattle.sat_log.specs.Words.{value_from}
-use Rattle.sat_log.proofs.Again.{decimal_spells, none_is}
 use Rattle.class_text.specs.ClassLines.{name_of}
 use Rattle.corr_certificate.specs.Names.{number_of, signal_of, place_of, named}
 use Rattle.corr_certificate.proofs.Places.{placed}
-
-value_same : (n : ℕ) (ds : List ℕ) → codec_value n ds ≡ value_from n ds
-value_same n [] = refl
-value_same n (d ∷ ds) = value_same (10 * n + (d - 48)) ds
-
-number_spelled : (n : ℕ) → n < 4294967296 → SpellsNumber (decimal n) n
-number_spelled n lt =
-    let s = decimal_spells n (omega (arith, lt)) in
-    record { some = s.some; digits = s.digits; value = omega (arith, lt, s.value, value_same 0 (decimal n)) }
-
-digits_whole : (ds : List ℕ) → AllByRecursion IsDigit ds → digits ds ≡ ds
-digits_whole [] all = refl
-digits_whole (d ∷ ds) all = let t = is_of_digit d all.0 in let h = digits_whole ds all.1 in rw (t, h) refl
 
 -- no zero leads
 unpadded : (n : ℕ) → n < 4294967296 → (not (get_or (decimal n) 0 0 == 48) || (length (decimal n) == 1)) ≡ true

@@ -7,11 +7,12 @@ use Rattle.class_partition.specs.Classes.{Classes, is_least}
 use Rattle.cnf_store.specs.Clauses.{Formula}
 use Rattle.product_machine.specs.Signals.{signal_at}
 use Rattle.sat_log.specs.Derivations.{Line}
-use Rattle.sat_log.specs.Pieces.{pieces}
+use Rattle.plain_text.specs.Pieces.{pieces}
 use Rattle.sat_log.specs.Texts.{log_text}
 use Rattle.sat_log.specs.Parts.{Part, part, part_from, starts_log}
 use Rattle.sat_log.specs.declared.part.Stop.TheVariants as stops
-use Rattle.sat_log.proofs.Again.{piece_again, part_again}
+use Rattle.plain_text.proofs.Again.{piece_again}
+use Rattle.sat_log.proofs.Again.{part_again}
 use Rattle.class_text.specs.ClassLines.{name_of}
 use Rattle.corr_certificate.specs.declared.fault.Checked.TheVariants.{Yes}
 use Rattle.corr_certificate.specs.Names.{stripped}

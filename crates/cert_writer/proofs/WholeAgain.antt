@@ -10,8 +10,8 @@ use Rattle.class_partition.proofs.Signs.{signed-self}
 use Rattle.cnf_store.specs.Clauses.{Formula}
 use Rattle.frame_unroll.specs.Members.{member_pair}
 use Rattle.frame_unroll.specs.Unrolled.{Unrolling, from_reset, formula_of, asks, asking}
-use Rattle.sat_log.specs.Pieces.{pieces, last_of}
-use Rattle.sat_log.proofs.Again.{piece_again}
+use Rattle.plain_text.specs.Pieces.{pieces, last_of}
+use Rattle.plain_text.proofs.Again.{piece_again}
 use Rattle.class_text.specs.ClassLines.{class_lines}
 use Rattle.corr_certificate.specs.declared.fault.CertKind.TheVariants as kinds
 use Rattle.corr_certificate.specs.declared.fault.Checked.TheVariants.{Yes}

@@ -12,7 +12,7 @@ use Rattle.circ_model.proofs.Outputs.{paired_agree}
 use Rattle.circ_model.proofs.Rows.{left_literal_is, right_literal_is}
 use Rattle.class_partition.specs.Classes.{Classes, ArePartition, Passes, needed, needed_pairs}
 use Rattle.class_partition.proofs.Partition.{pairs_hold, needed_are_correspondence}
-use Rattle.sat_log.specs.Pieces.{pieces, last_of}
+use Rattle.plain_text.specs.Pieces.{pieces, last_of}
 use Rattle.corr_certificate.specs.declared.fault.CertKind.TheVariants as kinds
 use Rattle.corr_certificate.specs.declared.fault.Checked.TheVariants.{Yes}
 use Rattle.corr_certificate.specs.ClassLines.{ClassPart, none_joined, classes_from}

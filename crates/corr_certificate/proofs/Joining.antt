@@ -12,7 +12,7 @@ use Rattle.circ_model.specs.Meaning.{Pair, places_of}
 use Rattle.class_partition.specs.Classes.{Classes, ArePartition, least_of}
 use Rattle.product_machine.specs.Cells.{signals}
 use Rattle.product_machine.proofs.Size.{length_signals}
-use Rattle.sat_log.specs.Pieces.{pieces, last_of}
+use Rattle.plain_text.specs.Pieces.{pieces, last_of}
 use Rattle.corr_certificate.specs.Names.{stripped, is_signal, place_of, named, signal_of}
 use Rattle.corr_certificate.specs.ClassLines.{Joining, ClassPart, none_joined, with_sign, member_of, may_join, joined, and_join, members_from, after_first, begun, class_words, or_refused, line_or_end, class_part, classes_from}
 

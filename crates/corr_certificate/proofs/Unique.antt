@@ -7,7 +7,7 @@ use Rattle.class_partition.specs.Classes.{Classes, is_least}
 use Rattle.cnf_store.specs.Clauses.{Formula}
 use Rattle.sat_log.specs.Derivations.{Line, AllFollow}
 use Rattle.sat_log.specs.Parts.{part_from}
-use Rattle.sat_log.specs.Pieces.{pieces, last_of}
+use Rattle.plain_text.specs.Pieces.{pieces, last_of}
 use Rattle.sat_log.specs.declared.part.Stop.{Stop}
 use Rattle.sat_log.specs.declared.part.Stop.TheVariants as stops
 use Rattle.log_check.specs.FirstBad.{FollowTo, IsFirstBad}

@@ -4,7 +4,7 @@ use Rattle.std.specs.List.{range_with_len}
 use Rattle.circ_model.specs.Meaning.{Pair, places_of, outputs_of}
 use Rattle.class_partition.specs.Classes.{Classes}
 use Rattle.class_partition.specs.Laws.{PairOutput}
-use Rattle.sat_log.specs.Pieces.{pieces, last_of}
+use Rattle.plain_text.specs.Pieces.{pieces, last_of}
 use Rattle.corr_certificate.specs.declared.fault.CertKind.TheVariants as kinds
 use Rattle.corr_certificate.specs.declared.fault.Checked.{Checked}
 use Rattle.corr_certificate.specs.declared.fault.Checked.TheVariants.{Yes}

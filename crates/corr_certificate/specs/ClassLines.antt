@@ -4,7 +4,7 @@ use Rattle.std.specs.Prelude.{◌≡◌, ℕ, ◌+◌, ◌==◌, ◌&&◌, leb, 
 use Rattle.std.specs.List.{range_with_len}
 use Rattle.circ_model.specs.Meaning.{Pair}
 use Rattle.class_partition.specs.Classes.{Classes, least_of}
-use Rattle.sat_log.specs.Pieces.{pieces, last_of}
+use Rattle.plain_text.specs.Pieces.{pieces, last_of}
 use Rattle.corr_certificate.specs.Names.{stripped, named}
 
 -- the classes so far, and the least place that the next name may have

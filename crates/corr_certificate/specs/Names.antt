@@ -5,7 +5,7 @@ use Rattle.std.specs.List.{position}
 use Rattle.circ_model.specs.declared.netlist.Signal.{Signal}
 use Rattle.circ_model.specs.declared.netlist.Signal.TheVariants.{Const, Input, Left, Right}
 use Rattle.circ_model.specs.Meaning.{Pair}
-use Rattle.aiger_codec.specs.Numbers.{number_at}
+use Rattle.plain_text.specs.Numbers.{number_at}
 use Rattle.product_machine.specs.Cells.{signals}
 
 -- what follows a prefix

@@ -1,7 +1,7 @@
 -- Where the header is read, the clauses are those of the lines after it.
 use Rattle.std.proofs.Common.{◌≡◌, ℕ, ◌+◌, false, List, [], ◌∷◌, length, Some, Result, refl, sym, ap, ◌∙◌, subst}
 use Rattle.cnf_store.specs.Clauses.{Formula}
-use Rattle.sat_log.specs.Pieces.{pieces, last_of}
+use Rattle.plain_text.specs.Pieces.{pieces, last_of}
 use Rattle.dimacs_text.specs.Words.{header_of}
 use Rattle.dimacs_text.specs.Texts.{State, state, finished, lines_from, is_passed, header_from, IsRead}
 use Rattle.dimacs_text.specs.declared.header.Header.{Header}

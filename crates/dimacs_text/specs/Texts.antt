@@ -2,7 +2,7 @@
 use Rattle.std.specs.Prelude.{◌≡◌, ℕ, ℤ, ◌+◌, ◌==◌, ◌||◌, Bool, leb, if◌then◌else◌, List, [], ◌∷◌, ◌++◌, Option, Some, None, Result, Ok, Err, length, unsigned_abs}
 use Rattle.std.specs.List.{list_all}
 use Rattle.cnf_store.specs.Clauses.{Formula}
-use Rattle.sat_log.specs.Pieces.{pieces, last_of, is_byte}
+use Rattle.plain_text.specs.Pieces.{pieces, last_of, is_byte}
 use Rattle.sat_log.specs.Words.{literal_word}
 use Rattle.dimacs_text.specs.Words.{words, is_comment, is_of_number, header_of}
 use Rattle.dimacs_text.specs.declared.header.Header.{Header}

@@ -1,7 +1,8 @@
 -- The words of a line between spaces, and the header that a line is: `p cnf VARIABLES CLAUSES`.
 use Rattle.std.specs.Prelude.{ℕ, ◌==◌, ◌&&◌, ◌||◌, Bool, if◌then◌else◌, List, [], ◌∷◌, ◌++◌, Option, Some, None, length, slice_index}
-use Rattle.sat_log.specs.Pieces.{pieces, last_of, is_byte}
-use Rattle.sat_log.specs.Words.{is_digit, number_word}
+use Rattle.plain_text.specs.Pieces.{pieces, last_of, is_byte}
+use Rattle.plain_text.specs.Numbers.{is_digit}
+use Rattle.plain_text.specs.Words.{number_word}
 use Rattle.dimacs_text.specs.declared.header.Header.{Header}
 
 abbrev pub nonempty : List (List ℕ) → List (List ℕ)

@@ -2,14 +2,15 @@
 ghost use Rattle.std.specs.Prelude.{◌≡◌, ◌≤◌, ◌<◌, ◌+◌, ◌^◌, length};
 ghost use Rattle.std.specs.List.{list_all};
 ghost use Rattle.cnf_store.specs.Clauses.{AreLiterals};
-ghost use Rattle.sat_log.specs.Pieces.{pieces, last_of};
+ghost use Rattle.plain_text.specs.Pieces.{pieces, last_of};
 ghost use Rattle.dimacs_text.specs.Words.{is_of_number};
 ghost use Rattle.dimacs_text.specs.Texts.{state, word_from, words_from, line_from, lines_from, kind_of, IsDue};
 
 use crate::fault::{DimacsError, DimacsFault, DimacsKind};
 use crate::header::is_comment;
 use cnf_store::Cnf;
-use sat_log::{is_byte, literal_word, next_piece};
+use plain_text::{is_byte, next_piece};
+use sat_log::literal_word;
 
 fn is_of_number(b: u8) -> bool
     ensures { result ≡ is_of_number b }

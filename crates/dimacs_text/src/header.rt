@@ -2,7 +2,7 @@
 ghost use Rattle.std.specs.Prelude.{◌≡◌, ◌≤◌, ◌<◌, ◌∷◌, [], IfSome, MatchOption, length};
 ghost use Rattle.dimacs_text.specs.Words.{words, is_comment, is_cnf, count_word, header_of};
 
-use sat_log::{is_byte, next_piece, number_word};
+use plain_text::{is_byte, next_piece, number_word};
 
 /// What a header says.
 #[derive(Clone, Copy, Debug, PartialEq, Eq)]

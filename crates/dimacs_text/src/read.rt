@@ -1,6 +1,6 @@
 //! Reading a text.
 ghost use Rattle.std.specs.Prelude.{◌≡◌, ◌≤◌, ◌<◌, ◌+◌, ◌^◌, [], length};
-ghost use Rattle.sat_log.specs.Pieces.{pieces, last_of};
+ghost use Rattle.plain_text.specs.Pieces.{pieces, last_of};
 ghost use Rattle.dimacs_text.specs.Words.{words};
 ghost use Rattle.dimacs_text.specs.Texts.{state, finished, lines_from, header_from, is_passed, text_of, IsRead};
 
@@ -8,7 +8,7 @@ use crate::body::read_lines;
 use crate::fault::{DimacsError, DimacsFault, DimacsKind};
 use crate::header::{Header, header_of, is_comment, next_word};
 use cnf_store::Cnf;
-use sat_log::next_piece;
+use plain_text::next_piece;
 use std::alloc::Global;
 
 fn is_passed(line: &[u8]) -> bool

@@ -1,4 +1,5 @@
 use aiger_codec::*;
+use plain_text::read_number;
 use std::alloc::{AllocError, Global};
 use std::test::Fail;
 

@@ -1,8 +1,8 @@
 -- The lines of a log inside a longer text, and a text that is a log.
 use Rattle.std.specs.Prelude.{◌≡◌, ℕ, ℤ, ◌+◌, ◌==◌, ◌||◌, Bool, true, false, if◌then◌else◌, List, [], ◌∷◌, ◌++◌, Option, Some, None, Result, Ok, Err, length, slice_index}
 use Rattle.sat_log.specs.Derivations.{Line}
-use Rattle.sat_log.specs.Pieces.{pieces, last_of}
-use Rattle.sat_log.specs.Words.{is_digit}
+use Rattle.plain_text.specs.Pieces.{pieces, last_of}
+use Rattle.plain_text.specs.Numbers.{is_digit}
 use Rattle.sat_log.specs.Texts.{step_of}
 use Rattle.sat_log.specs.declared.part.Stop.{Stop}
 use Rattle.sat_log.specs.declared.part.Stop.TheVariants.{Ends, Cut, Wrong}

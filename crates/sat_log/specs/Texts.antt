@@ -4,8 +4,9 @@ use Rattle.std.specs.Prelude.{◌≡◌, ◌<◌, ◌^◌, ℕ, ℤ, Bool, true,
 use Rattle.std.specs.Fmt.{signed_decimal}
 use Rattle.std.specs.List.{All}
 use Rattle.sat_log.specs.Derivations.{Line}
-use Rattle.sat_log.specs.Pieces.{pieces, last_of, is_byte}
-use Rattle.sat_log.specs.Words.{number_word, literal_word}
+use Rattle.plain_text.specs.Pieces.{pieces, last_of, is_byte}
+use Rattle.plain_text.specs.Words.{number_word}
+use Rattle.sat_log.specs.Words.{literal_word}
 
 abbrev pub and_hint : Option ℕ → (ℕ → Option Line) → Option Line
 and_hint None more = None

@@ -1,26 +1,6 @@
--- Words of a log line: numbers without leading zeros, and literals.
-use Rattle.std.specs.Prelude.{ℕ, ℤ, pos, neg_ℤ, ◌+◌, ◌-◌, ◌*◌, ◌==◌, ◌&&◌, leb, Bool, true, false, if◌then◌else◌, List, [], ◌∷◌, drop, Option, Some, None, slice_index}
-
-abbrev pub is_digit : ℕ → Bool
-is_digit b = leb 48 b && leb b 57
-
-abbrev pub are_digits : List ℕ → Bool
-are_digits [] = true
-are_digits (d ∷ ds) = if is_digit d then are_digits ds else false
-
--- the value of digits after this one
-abbrev pub value_from : ℕ → List ℕ → ℕ
-value_from value [] = value
-value_from value (d ∷ ds) = value_from (10 * value + (d - 48)) ds
-
--- one or more digits, the first of which isn't 0
-abbrev pub is_plain : List ℕ → Bool
-is_plain [] = false
-is_plain (d ∷ ds) = if d == 48 then false else are_digits (d ∷ ds)
-
--- a number from 1 to a limit
-abbrev pub number_word : ℕ → List ℕ → Option ℕ
-number_word limit word = if is_plain word && leb (value_from 0 word) limit then Some (value_from 0 word) else None
+-- Words of a log line that are literals.
+use Rattle.std.specs.Prelude.{ℕ, ℤ, pos, neg_ℤ, ◌==◌, if◌then◌else◌, List, drop, Option, Some, None, slice_index}
+use Rattle.plain_text.specs.Words.{number_word}
 
 abbrev pub plain_literal : Option ℕ → Option ℤ
 plain_literal None = None

@@ -8,7 +8,6 @@
 mod laws;
 mod log;
 mod part;
-mod pieces;
 mod read;
 mod text;
 mod words;
@@ -17,8 +16,7 @@ mod write;
 pub use laws::accepted_logs_refute;
 pub use log::Log;
 pub use part::{PartEnd, Stop, read_part};
-pub use pieces::{is_byte, next_piece};
 pub use read::read_step;
 pub use text::{LogError, LogFault, read_log, write_log};
-pub use words::{literal_word, number_word};
+pub use words::literal_word;
 pub use write::write_step;

@@ -1,12 +1,12 @@
 //! The lines of a log inside a longer text.
 ghost use Rattle.std.specs.Prelude.{◌≡◌, ◌<◌, ◌+◌, ◌^◌, ◌≤◌, IfOk, length};
-ghost use Rattle.sat_log.specs.Pieces.{pieces, last_of};
+ghost use Rattle.plain_text.specs.Pieces.{pieces, last_of};
 ghost use Rattle.sat_log.specs.Texts.{step_of};
 ghost use Rattle.sat_log.specs.Parts.{starts_log, part, part_from, Adds};
 
 use crate::log::Log;
-use crate::pieces::next_piece;
 use crate::read::read_step;
+use plain_text::next_piece;
 use std::alloc::{AllocError, Global};
 
 /// Why reading a log's lines stopped.

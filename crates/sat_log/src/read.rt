@@ -2,11 +2,11 @@
 ghost use Rattle.std.specs.Prelude.{◌≡◌, ◌<◌, IfOk, []};
 ghost use Rattle.std.specs.List.{All};
 ghost use Rattle.cnf_store.specs.Clauses.{AreLiterals};
-ghost use Rattle.sat_log.specs.Pieces.{pieces, last_of};
+ghost use Rattle.plain_text.specs.Pieces.{pieces, last_of};
 ghost use Rattle.sat_log.specs.Texts.{hints_from, step_from, step_of, Parses};
 
-use crate::pieces::{is_byte, next_piece};
-use crate::words::{literal_word, number_word};
+use crate::words::literal_word;
+use plain_text::{is_byte, next_piece, number_word};
 use std::alloc::AllocError;
 
 #[tactic(auto, unfolding(crate::specs::Texts::hints_from))]

@@ -8,8 +8,8 @@ ghost use Rattle.sat_log.specs.declared.text.LogError.TheVariants.{Refused};
 
 use crate::log::Log;
 use crate::part::add_line;
-use crate::pieces::next_piece;
 use crate::write::push_step;
+use plain_text::next_piece;
 use std::alloc::{AllocError, Global};
 
 /// The first line that isn't a log line, counted from 1.

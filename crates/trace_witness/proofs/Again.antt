@@ -1,58 +1,25 @@
 -- What is written is read again.
-use Rattle.std.proofs.Common.{◌≡◌, ◌≢◌, ℕ, suc, ◌+◌, ◌-◌, ◌*◌, ◌%◌, ◌^◌, ◌<◌, Bool, true, false, ◌&&◌, List, [], ◌∷◌, ◌++◌, length, Some, None, Ok, refl, sym, ap, ◌∙◌, arith, append_assoc, append-nil, length-append, decimal}
+use Rattle.std.proofs.Common.{◌≡◌, ◌≢◌, ℕ, suc, ◌+◌, ◌<◌, Bool, true, false, ◌&&◌, List, [], ◌∷◌, ◌++◌, length, Some, None, Ok, refl, sym, ap, ◌∙◌, arith, append_assoc, append-nil, decimal}
 use Rattle.std.specs.List.{All, AllByRecursion}
 use Rattle.std.proofs.lemmas.Bool.{eq-eqb, ne_eqb, lt-ltb}
-use Rattle.std.proofs.lemmas.Fmt.{decimal_by_steps}
-use Rattle.aiger_codec.specs.Numbers.{digits, value_from, number_at}
-use Rattle.aiger_codec.specs.Grammar.{IsDigit, SpellsNumber}
-use Rattle.aiger_codec.proofs.Spelled.{is_of_digit, number_made}
+use Rattle.plain_text.specs.Numbers.{number_at}
+use Rattle.plain_text.proofs.Again.{digits_whole, none_is, piece_again}
+use Rattle.plain_text.specs.Pieces.{is_byte}
+use Rattle.aiger_codec.specs.Grammar.{SpellsNumber}
+use Rattle.aiger_codec.proofs.Spelled.{number_made}
+use Rattle.aiger_codec.proofs.WrittenLines.{number_spelled}
 use Rattle.circ_model.specs.Meaning.{Pair, Path, IsRun, outputs_of, latches_of, resets}
 use Rattle.trace_witness.specs.Lines.{lines_of}
-use Rattle.trace_witness.specs.Bits.{are_marks, has_unknown, bits_fault, bits_of, is_against, breaks_tie, start_fault, is_byte}
+use Rattle.trace_witness.specs.Bits.{are_marks, has_unknown, bits_fault, bits_of, is_against, breaks_tie, start_fault}
 use Rattle.trace_witness.specs.Texts.{bytes_of, frames_of, frames_text, trace_of, trace_text, output_named}
 use Rattle.trace_witness.proofs.Starts.{not_against_run}
 use Rattle.trace_witness.proofs.Ties.{tied_run}
 
-pub line_again : (text rest : List ℕ) → AllByRecursion (λ b. b ≢ 10) text → lines_of (text ++ 10 ∷ rest) ≡ text ∷ lines_of rest
-unfolding lines_of
-line_again [] rest all = refl
-line_again (b ∷ text) rest all = let t = ne_eqb b 10 all.0 in let h = line_again text rest all.1 in rw (t, h) refl
-
 -- a number in decimal
-value_push : (n : ℕ) (ds : List ℕ) (d : ℕ) → value_from n (ds ++ d ∷ []) ≡ 10 * value_from n ds + (d - 48)
-value_push n [] d = refl
-value_push n (x ∷ ds) d = value_push (10 * n + (x - 48)) ds d
-
-all_push : (ds : List ℕ) (d : ℕ) → AllByRecursion IsDigit ds → IsDigit d → AllByRecursion IsDigit (ds ++ d ∷ [])
-all_push [] d all is = (is, tt)
-all_push (x ∷ ds) d all is = (all.0, all_push ds d all.1 is)
-
-record Spells (n : ℕ) (ds : List ℕ) : Type 0 where
-  some : 0 < length ds
-  digits : AllByRecursion IsDigit ds
-  value : value_from 0 ds ≡ n
-
-decimal_spells : (n : ℕ) → n < 2 ^ 64 → Spells n (decimal n)
-decimal_spells n lt = decimal_by_steps Spells
-    (λ n lt. record { some = omega arith; digits = ((omega arith, omega arith), tt); value = omega arith })
-    (λ n ds le h. record { some = omega (arith, length-append ds ((48 + n % 10) ∷ [])); digits = all_push ds (48 + n % 10) h.digits (omega arith, omega arith); value = value_push 0 ds (48 + n % 10) ∙ omega (arith, h.value) })
-    n lt
-
-number_spelled : (n : ℕ) → n < 4294967296 → SpellsNumber (decimal n) n
-number_spelled n lt = let s = decimal_spells n (omega (arith, lt)) in record { some = s.some; digits = s.digits; value = omega (arith, s.value) }
-
-digits_all : (ds : List ℕ) → AllByRecursion IsDigit ds → digits ds ≡ ds
-digits_all [] all = refl
-digits_all (d ∷ ds) all = let t = is_of_digit d all.0 in let h = digits_all ds all.1 in rw (t, h) refl
-
-not_lf : (ds : List ℕ) → AllByRecursion IsDigit ds → AllByRecursion (λ b. b ≢ 10) ds
-not_lf [] all = tt
-not_lf (d ∷ ds) all = ((λ e. let low = all.0.0 in omega arith), not_lf ds all.1)
-
 name_again : (outputs n : ℕ) (ds : List ℕ) → SpellsNumber ds n → n < outputs → output_named outputs (98 ∷ ds) ≡ Some n
 unfolding number_at
 name_again outputs n ds s lt =
-    let d = digits_all ds s.digits in
+    let d = digits_whole ds s.digits in
     let m = number_made ds 1 n s in
     let e = eq-eqb (1 + length ds) (suc (length ds)) (omega arith) in
     let t = lt-ltb n outputs lt in
@@ -108,12 +75,12 @@ start_good pair run is =
     rw (g, a, t) refl
 
 frames_again : (width line : ℕ) (front rows : List (List Bool)) → All (λ r. length r ≡ width) rows → frames_of width line front (lines_of (frames_text rows)) ≡ Ok (front ++ rows)
-unfolding frames_of frames_text
+unfolding frames_of frames_text pieces
 frames_again width line front [] all =
-    let p = line_again (46 ∷ []) [] ((λ e. omega arith), tt) in
+    let p = piece_again 10 (46 ∷ []) [] ((λ e. omega arith), tt) in
     rw p (ap (λ (l : List (List Bool)). Ok l) (sym (append-nil front)))
 frames_again width line front (row ∷ rows) all =
-    let p = line_again (bytes_of row) (frames_text rows) (bytes_not_lf row) in
+    let p = piece_again 10 (bytes_of row) (frames_text rows) (bytes_not_lf row) in
     let t = not_end row in
     let g = line_good width row (all 0 [] (omega arith)) in
     let b = bits_again row in
@@ -127,9 +94,9 @@ unfolding trace_of
 trace_again pair output run is lt small =
     let s = number_spelled output small in
     let rest : List ℕ = frames_text run.inputs in
-    let a = line_again (49 ∷ []) ((98 ∷ decimal output) ++ 10 ∷ (bytes_of run.start ++ 10 ∷ rest)) ((λ e. omega arith), tt) in
-    let b = line_again (98 ∷ decimal output) (bytes_of run.start ++ 10 ∷ rest) ((λ e. omega arith), not_lf (decimal output) s.digits) in
-    let c = line_again (bytes_of run.start) rest (bytes_not_lf run.start) in
+    let a = piece_again 10 (49 ∷ []) ((98 ∷ decimal output) ++ 10 ∷ (bytes_of run.start ++ 10 ∷ rest)) ((λ e. omega arith), tt) in
+    let b = piece_again 10 (98 ∷ decimal output) (bytes_of run.start ++ 10 ∷ rest) ((λ e. omega arith), none_is 10 (decimal output) (omega arith) s.digits) in
+    let c = piece_again 10 (bytes_of run.start) rest (bytes_not_lf run.start) in
     let n = name_again (outputs_of pair) output (decimal output) s lt in
     let g = start_good pair run is in
     let f = frames_again (length pair.left.inputs) 4 [] run.inputs is.is_path.inputs in

@@ -1,4 +1,3 @@
-pub mod Splits
 pub mod Starts
 pub mod Ties
 pub mod Again

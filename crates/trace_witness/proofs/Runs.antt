@@ -4,7 +4,8 @@ use Rattle.std.specs.List.{All}
 use Rattle.std.proofs.lemmas.Bool.{eqb-true, ltb-true}
 use Rattle.std.proofs.lemmas.List.{length-map}
 use Rattle.std.proofs.lemmas.List.Elements.{All-append}
-use Rattle.aiger_codec.specs.Numbers.{number_at}
+use Rattle.plain_text.specs.Numbers.{number_at}
+use Rattle.plain_text.specs.Pieces.{is_byte}
 use Rattle.aiger_codec.proofs.Ends.{chosen}
 use Rattle.aiger_codec.proofs.Spelled.{and_both}
 use Rattle.circ_model.specs.Meaning.{Pair, IsRun, outputs_of, latches_of, resets}
@@ -12,7 +13,7 @@ use Rattle.trace_witness.specs.declared.read.Trace.{Trace}
 use Rattle.trace_witness.specs.declared.fault.TraceKind.{TraceKind}
 use Rattle.trace_witness.specs.declared.fault.TraceFault.{TraceFault}
 use Rattle.trace_witness.specs.declared.fault.TraceError.{TraceError}
-use Rattle.trace_witness.specs.Bits.{are_marks, bits_fault, bit_of, bits_of, is_against, reset_fault, breaks_tie, tie_fault, start_fault, is_byte}
+use Rattle.trace_witness.specs.Bits.{are_marks, bits_fault, bit_of, bits_of, is_against, reset_fault, breaks_tie, tie_fault, start_fault}
 use Rattle.trace_witness.specs.Texts.{frame_or, frames_of, with_rows, started, start_of, below, output_named, named, output_of, trace_of, IsDue}
 use Rattle.trace_witness.proofs.Starts.{start_from}
 use Rattle.trace_witness.proofs.Ties.{each_like, run_ties}

@@ -1,5 +1,5 @@
 -- Lines of bits, and what is wrong with them.
-use Rattle.std.specs.Prelude.{ℕ, ◌+◌, ◌==◌, ◌||◌, ◌&&◌, Bool, true, false, not, if◌then◌else◌, List, [], ◌∷◌, length, map, Option, Some, None, slice_index}
+use Rattle.std.specs.Prelude.{ℕ, ◌+◌, ◌==◌, ◌||◌, ◌&&◌, Bool, true, false, not, if◌then◌else◌, List, [], ◌∷◌, length, map, Option, Some, None}
 use Rattle.circ_model.specs.declared.netlist.Reset.{Reset}
 use Rattle.circ_model.specs.declared.netlist.Reset.TheVariants.{Zero, One, Free}
 use Rattle.circ_model.specs.Meaning.{bit, Pair, latches_of, resets, free_latches}
@@ -78,7 +78,3 @@ tie_fault pair line None = if breaks_tie pair (bits_of line) then Some kinds.Tie
 -- the first of what can be wrong with the line of start bits
 abbrev pub start_fault : Pair → List ℕ → Option TraceKind
 start_fault pair line = tie_fault pair line (reset_fault pair line (bits_fault (latches_of pair) line))
-
--- a line is this byte alone
-abbrev pub is_byte : ℕ → List ℕ → Bool
-is_byte b line = (length line == 1) && (slice_index line 0 == b)

@@ -1,9 +1,10 @@
 -- A trace as its lines say it, or the first fault; and the text of a trace. (The form of an AIGER 1.9 witness, Biere, Heljanko and
 -- Wieringa 2011, with `b` and an output's number.)
 use Rattle.std.specs.Prelude.{◌≡◌, ℕ, ◌+◌, ◌==◌, ltb, ◌&&◌, Bool, if◌then◌else◌, List, [], ◌∷◌, ◌++◌, length, map, Option, Some, None, Result, Ok, Err, slice_index, decimal}
-use Rattle.aiger_codec.specs.Numbers.{number_at}
+use Rattle.plain_text.specs.Numbers.{number_at}
+use Rattle.plain_text.specs.Pieces.{is_byte}
 use Rattle.circ_model.specs.Meaning.{Pair, Path, outputs_of}
-use Rattle.trace_witness.specs.Bits.{bits_fault, bits_of, start_fault, is_byte}
+use Rattle.trace_witness.specs.Bits.{bits_fault, bits_of, start_fault}
 use Rattle.trace_witness.specs.declared.read.Trace.{Trace}
 use Rattle.trace_witness.specs.declared.fault.TraceKind.{TraceKind}
 use Rattle.trace_witness.specs.declared.fault.TraceFault.{TraceFault}

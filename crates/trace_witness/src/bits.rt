@@ -2,7 +2,7 @@
 ghost use Rattle.std.specs.Prelude.{◌≡◌, ◌<◌, ◌↔◌, IsTrue, [], length, IfNone, IfOk};
 ghost use Rattle.circ_model.specs.Meaning.{latches_of, resets};
 ghost use Rattle.product_machine.specs.States.{StartsLike};
-ghost use Rattle.trace_witness.specs.Bits.{is_mark, are_marks, has_unknown, bits_fault, bit_of, bits_of, clashes, is_against, breaks_tie, start_fault, is_byte};
+ghost use Rattle.trace_witness.specs.Bits.{is_mark, are_marks, has_unknown, bits_fault, bit_of, bits_of, clashes, is_against, breaks_tie, start_fault};
 
 use crate::fault::TraceKind;
 use bit_rows::BitRow;
@@ -13,7 +13,7 @@ use std::alloc::{AllocError, Global};
 fn is_mark(b: u8) -> bool
     ensures { result ≡ is_mark b }
 {
-    b == 48 || b == 49 || b == 120
+    b == b'0' || b == b'1' || b == b'x'
 }
 
 fn are_marks(line: &[u8]) -> bool
@@ -31,7 +31,7 @@ fn has_unknown(line: &[u8]) -> bool
     ensures { result ≡ has_unknown line.now }
 {
     for b in line {
-        if *b == 120 {
+        if *b == b'x' {
             return true;
         }
     }
@@ -70,7 +70,7 @@ fn is_against(product: &Product, line: &[u8]) -> bool
     ensures { result ≡ is_against (resets product.now) (bits_of line.now) }
 {
     for i in 0..product.latches() {
-        if clashes(product.reset(i), line[i as usize] == 49) {
+        if clashes(product.reset(i), line[i as usize] == b'1') {
             return true;
         }
     }
@@ -85,7 +85,7 @@ fn starts_like(product: &Product, line: &[u8], i: u32) -> bool
 {
     match product.tie(i) {
         None => true,
-        Some(partner) => (line[i as usize] == 49) == (line[partner as usize] == 49),
+        Some(partner) => (line[i as usize] == b'1') == (line[partner as usize] == 49),
     }
 }
 
@@ -118,13 +118,6 @@ pub fn start_fault(product: &Product, line: &[u8]) -> Option<TraceKind>
     None
 }
 
-// Whether a line is this byte alone.
-pub fn is_byte(b: u8, line: &[u8]) -> bool
-    ensures { result ≡ is_byte b line.now }
-{
-    line.len() == 1 && line[0] == b
-}
-
 // The row that a line spells.
 pub fn row_of(alloc: Global, line: &[u8], width: u32) -> Result<BitRow, AllocError>
     requires { length line.now ≡ width }
@@ -132,7 +125,7 @@ pub fn row_of(alloc: Global, line: &[u8], width: u32) -> Result<BitRow, AllocErr
 {
     let mut row = BitRow::with_len(alloc, width)?;
     for i in 0..width {
-        row.set(i, line[i as usize] == 49);
+        row.set(i, line[i as usize] == b'1');
     }
     Ok(row)
 }

@@ -4,7 +4,6 @@
 
 mod bits;
 mod fault;
-mod lines;
 mod read;
 mod replay;
 mod write;

@@ -5,11 +5,10 @@ ghost use Rattle.trace_witness.specs.declared.fault.TraceError.TheVariants.{Refu
 ghost use Rattle.trace_witness.specs.Lines.{lines_of};
 ghost use Rattle.trace_witness.specs.Texts.{fault, output_named, frames_of, trace_of, IsDue, FramesDue};
 
-use crate::bits::{bits_fault, is_byte, row_of, start_fault};
+use crate::bits::{bits_fault, row_of, start_fault};
 use crate::fault::{TraceError, TraceFault, TraceKind};
-use crate::lines::next_line;
-use aiger_codec::read_number;
 use bit_rows::Rows;
+use plain_text::{is_byte, next_piece, read_number};
 use product_machine::{Path, Product};
 use std::alloc::Global;
 
@@ -23,7 +22,7 @@ pub struct Trace {
 fn output_named(outputs: u32, line: &[u8]) -> Option<u32>
     ensures { result ≡ output_named outputs line.now }
 {
-    if line.len() == 0 || line[0] != 98 {
+    if line.len() == 0 || line[0] != b'b' {
         return None;
     }
     let Some((number, end)) = read_number(line, 1) else {
@@ -56,19 +55,19 @@ pub fn read_trace(alloc: Global, product: &Product, bytes: &[u8]) -> Result<Trac
 fn read_lines(alloc: Global, product: &Product, bytes: &[u8]) -> Result<Trace, TraceError>
     ensures { IsDue result (trace_of product.now (lines_of bytes.now)) }
 {
-    let Some((first, second)) = next_line(bytes) else {
+    let Some((first, second)) = next_piece(bytes, b'\n') else {
         return Err(refused(TraceKind::Truncated, 1));
     };
-    if !is_byte(49, first) {
+    if !is_byte(b'1', first) {
         return Err(refused(TraceKind::Line, 1));
     }
-    let Some((name, third)) = next_line(second) else {
+    let Some((name, third)) = next_piece(second, b'\n') else {
         return Err(refused(TraceKind::Truncated, 2));
     };
     let Some(output) = output_named(product.outputs(), name) else {
         return Err(refused(TraceKind::Line, 2));
     };
-    let Some((bits, rest)) = next_line(third) else {
+    let Some((bits, rest)) = next_piece(third, b'\n') else {
         return Err(refused(TraceKind::Truncated, 3));
     };
     if let Some(kind) = start_fault(product, bits) {
@@ -93,10 +92,10 @@ fn read_frames(alloc: Global, width: u32, bytes: &[u8], inputs: &mut Rows) -> Re
     let mut rest = bytes;
     let mut line: u64 = 4;
     loop {
-        let Some((bits, after)) = next_line(rest) else {
+        let Some((bits, after)) = next_piece(rest, b'\n') else {
             return Err(refused(TraceKind::Truncated, line));
         };
-        if is_byte(46, bits) {
+        if is_byte(b'.', bits) {
             return Ok(());
         }
         if let Some(kind) = bits_fault(bits, width) {

@@ -12,7 +12,7 @@ fn push_bits(bits: &BitRow, into: &mut Vec<u8>) -> Result<(), AllocError>
     ensures { OnOk result (into.new.items ≡ into.old.items ++ bytes_of bits.now) }
 {
     for i in 0..bits.len() {
-        into.push(if bits.get(i) { 49 } else { 48 })?;
+        into.push(if bits.get(i) { b'1' } else { b'0' })?;
     }
     Ok(())
 }
@@ -23,7 +23,7 @@ fn push_frames(inputs: &Rows, into: &mut Vec<u8>) -> Result<(), AllocError>
 {
     for t in 0..inputs.len() {
         push_bits(inputs.row(t), into)?;
-        into.push(10)?;
+        into.push(b'\n')?;
     }
     into.extend_from_slice(b".\n")?;
     Ok(())
@@ -51,9 +51,9 @@ fn text_of(alloc: Global, output: u32, run: &Path) -> Result<Vec<u8>, AllocError
     let number = format!(in alloc; "{output}")?;
     let mut text = Vec::from_slice(alloc, b"1\nb")?;
     text.extend_from_slice(number.as_bytes())?;
-    text.push(10)?;
+    text.push(b'\n')?;
     push_bits(&run.start, &mut text)?;
-    text.push(10)?;
+    text.push(b'\n')?;
     push_frames(&run.inputs, &mut text)?;
     Ok(text)
 }

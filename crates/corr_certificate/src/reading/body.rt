@@ -2,7 +2,7 @@
 ghost use Rattle.std.specs.Prelude.{◌≡◌, ◌≤◌, ◌<◌, ◌+◌, ◌^◌, ◌==◌, length, Bool, true, false, IfOk};
 ghost use Rattle.std.specs.List.{range_with_len};
 ghost use Rattle.circ_model.specs.Meaning.{IsSoundPair, places_of};
-ghost use Rattle.sat_log.specs.Pieces.{pieces, last_of};
+ghost use Rattle.plain_text.specs.Pieces.{pieces, last_of};
 ghost use Rattle.frame_unroll.specs.Unrolled.{from_reset, after_classes};
 ghost use Rattle.log_check.specs.FirstBad.{Decides};
 ghost use Rattle.corr_certificate.specs.declared.fault.Checked.TheVariants.{No};
@@ -15,7 +15,7 @@ use crate::reading::parts::{Asked, Claim, check_member};
 use class_partition::Classes;
 use frame_unroll::Unrolled;
 use product_machine::Product;
-use sat_log::next_piece;
+use plain_text::next_piece;
 use std::alloc::{AllocError, Global};
 
 /// A fault as an answer.

@@ -2,7 +2,7 @@
 ghost use Rattle.std.specs.Prelude.{◌≡◌, ◌≤◌, ◌<◌, ◌+◌, ◌^◌, ◌==◌, ℕ, length, IfOk};
 ghost use Rattle.circ_model.specs.Meaning.{outputs_of, places_of};
 ghost use Rattle.circ_model.specs.Laws.{AgreeForEver};
-ghost use Rattle.sat_log.specs.Pieces.{pieces, last_of};
+ghost use Rattle.plain_text.specs.Pieces.{pieces, last_of};
 ghost use Rattle.corr_certificate.specs.declared.fault.Checked.TheVariants.{Yes};
 ghost use Rattle.corr_certificate.specs.ClassLines.{none_joined, classes_from};
 ghost use Rattle.corr_certificate.specs.Certificate.{AfterClasses, IsChecked};
@@ -12,7 +12,7 @@ use crate::reading::body::{no, read_body};
 use crate::reading::class_lines::Joining;
 use crate::reading::head::read_head;
 use product_machine::Product;
-use sat_log::next_piece;
+use plain_text::next_piece;
 use std::alloc::{AllocError, Global};
 
 // Reads the class lines, of which the first is line 2, and what follows them.

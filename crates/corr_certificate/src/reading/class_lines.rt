@@ -2,7 +2,7 @@
 ghost use Rattle.std.specs.Prelude.{◌≡◌, ◌≤◌, ◌<◌, ◌+◌, ◌^◌, ℕ, length, IfOk, IfErr, IfSome, MatchOption, None, Some, Ok, Err, codes};
 ghost use Rattle.circ_model.specs.Meaning.{places_of};
 ghost use Rattle.class_partition.specs.Steps.{classes_of};
-ghost use Rattle.sat_log.specs.Pieces.{pieces, last_of};
+ghost use Rattle.plain_text.specs.Pieces.{pieces, last_of};
 ghost use Rattle.corr_certificate.specs.Names.{stripped};
 ghost use Rattle.std.specs.List.{range_with_len};
 ghost use Rattle.class_partition.specs.Classes.{ArePartition};
@@ -15,7 +15,7 @@ use crate::reading::names::{first_byte, named, strip, tail};
 use bit_rows::BitRow;
 use class_partition::Classes;
 use product_machine::Product;
-use sat_log::next_piece;
+use plain_text::next_piece;
 use std::alloc::{AllocError, Global};
 use std::marker::Model;
 

@@ -4,7 +4,7 @@ ghost use Rattle.corr_certificate.specs.Certificate.{head, head_of, field_of, ti
 ghost use Rattle.corr_certificate.specs.Names.{stripped};
 
 use crate::reading::names::{number_of, strip};
-use sat_log::next_piece;
+use plain_text::next_piece;
 
 /// The depth of the induction, how many signals there are, and whether the free latches are tied.
 #[derive(Clone, Copy, PartialEq, Eq)]

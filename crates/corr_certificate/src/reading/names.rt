@@ -3,7 +3,7 @@ ghost use Rattle.std.specs.Prelude.{◌≡◌, ◌<◌, drop, slice_index, IfSom
 ghost use Rattle.circ_model.specs.Meaning.{places_of};
 ghost use Rattle.corr_certificate.specs.Names.{stripped, number_of, signal_of, named};
 
-use aiger_codec::read_number;
+use plain_text::read_number;
 use circ_model::Signal;
 use product_machine::Product;
 

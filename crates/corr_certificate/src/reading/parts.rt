@@ -3,7 +3,7 @@ ghost use Rattle.std.specs.Prelude.{◌≡◌, ◌≤◌, ◌<◌, ◌+◌, ◌^
 ghost use Rattle.circ_model.specs.Meaning.{places_of};
 ghost use Rattle.circ_model.specs.Correspondence.{IsLiteral};
 ghost use Rattle.class_partition.specs.Classes.{needed};
-ghost use Rattle.sat_log.specs.Pieces.{pieces, last_of};
+ghost use Rattle.plain_text.specs.Pieces.{pieces, last_of};
 ghost use Rattle.frame_unroll.specs.Unrolled.{from_reset, after_classes, formula_of, asks, asking};
 ghost use Rattle.corr_certificate.specs.Parts.{begins, IsOn, IsFault, IsMemberOn, IsMemberFault};
 
@@ -16,7 +16,8 @@ use cnf_store::Cnf;
 use frame_unroll::Unrolled;
 use log_check::first_bad;
 use product_machine::Product;
-use sat_log::{Log, Stop, next_piece, read_part};
+use plain_text::next_piece;
+use sat_log::{Log, Stop, read_part};
 use std::alloc::{AllocError, Global};
 
 /// What a certificate claims: that the classes are a signal correspondence by induction over k frames.

@@ -1,6 +1,6 @@
 use Rattle.std.proofs.Common.{◌≡◌, ◌+◌, length}
 use Rattle.cnf_store.specs.Clauses.{AreLiterals}
-use Rattle.sat_log.specs.Pieces.{pieces, last_of}
+use Rattle.plain_text.specs.Pieces.{pieces, last_of}
 use Rattle.dimacs_text.specs.Texts.{state, words_from}
 use Rattle.dimacs_text.proofs.body.read_line.Given as goal
 

@@ -1,5 +1,5 @@
 use Rattle.std.proofs.Common.{◌≡◌, ◌+◌, length}
-use Rattle.sat_log.specs.Pieces.{pieces, last_of}
+use Rattle.plain_text.specs.Pieces.{pieces, last_of}
 use Rattle.dimacs_text.specs.Texts.{header_from, text_of}
 use Rattle.dimacs_text.proofs.read.read_dimacs.Given as goal
 

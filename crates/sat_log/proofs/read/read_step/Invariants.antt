@@ -1,6 +1,6 @@
 use Rattle.std.proofs.Common.{◌≡◌, length, []}
 use Rattle.cnf_store.specs.Clauses.{AreLiterals}
-use Rattle.sat_log.specs.Pieces.{pieces, last_of}
+use Rattle.plain_text.specs.Pieces.{pieces, last_of}
 use Rattle.sat_log.specs.Texts.{step_from}
 use Rattle.sat_log.proofs.read.read_step.Given as goal
 

@@ -1,7 +1,7 @@
 use Rattle.std.proofs.Common.{◌≡◌, ◌∙◌, ◌<◌, ◌≤◌, ◌==◌, ℕ, true, false, List, length, eq-eqb, ne_eqb, sym, subst, arith}
 use Rattle.circ_model.specs.Meaning.{places_of}
 use Rattle.class_partition.specs.Classes.{is_least, least_of}
-use Rattle.sat_log.specs.Pieces.{pieces, last_of}
+use Rattle.plain_text.specs.Pieces.{pieces, last_of}
 use Rattle.corr_certificate.specs.declared.fault.Checked.TheVariants.{No}
 use Rattle.corr_certificate.specs.Parts.{ReadsEnd, ReadsMembers}
 use Rattle.corr_certificate.proofs.Answering.{at_ok, at_err}

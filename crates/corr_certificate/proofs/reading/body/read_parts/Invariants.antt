@@ -1,7 +1,7 @@
 use Rattle.std.proofs.Common.{◌≡◌, ◌≤◌, ◌+◌, ◌-◌, ◌==◌, length}
 use Rattle.std.specs.List.{range_with_len}
 use Rattle.circ_model.specs.Meaning.{places_of}
-use Rattle.sat_log.specs.Pieces.{pieces, last_of}
+use Rattle.plain_text.specs.Pieces.{pieces, last_of}
 use Rattle.frame_unroll.specs.Unrolled.{from_reset, after_classes}
 use Rattle.corr_certificate.specs.declared.fault.Checked.{Checked}
 use Rattle.corr_certificate.specs.Parts.{ReadsMembers}

@@ -1,6 +1,6 @@
 use Rattle.std.proofs.Common.{◌∙◌, length, ap}
 use Rattle.class_partition.specs.Classes.{Classes}
-use Rattle.sat_log.specs.Pieces.{pieces}
+use Rattle.plain_text.specs.Pieces.{pieces}
 use Rattle.corr_certificate.proofs.Joining.{are_read}
 use Rattle.corr_certificate.proofs.reading.certificate.read_classes.Goals as goal
 

@@ -3,7 +3,7 @@ use Rattle.std.specs.Prelude.{codes}
 use Rattle.class_partition.specs.Classes.{needed}
 use Rattle.cnf_store.specs.Clauses.{Formula}
 use Rattle.frame_unroll.specs.Unrolled.{from_reset, after_classes}
-use Rattle.sat_log.specs.Pieces.{pieces}
+use Rattle.plain_text.specs.Pieces.{pieces}
 use Rattle.corr_certificate.specs.Parts.{IsOn, IsFault, base_formula}
 use Rattle.corr_certificate.proofs.Answering.{at_ok, at_err, ok_map, err_map}
 use Rattle.corr_certificate.proofs.Going.{formula_by, member_both, base_fault, step_fault}

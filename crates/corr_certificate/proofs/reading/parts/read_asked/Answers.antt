@@ -2,7 +2,7 @@ use Rattle.std.proofs.Common.{◌≡◌, ◌∙◌, ap, subst}
 use Rattle.std.specs.Prelude.{IfOk, IfErr}
 use Rattle.cnf_store.specs.Clauses.{Formula}
 use Rattle.frame_unroll.specs.Unrolled.{formula_of, asks, asking}
-use Rattle.sat_log.specs.Pieces.{pieces}
+use Rattle.plain_text.specs.Pieces.{pieces}
 use Rattle.corr_certificate.specs.Parts.{IsOn, IsFault}
 use Rattle.corr_certificate.proofs.reading.parts.read_asked.Goals as goal
 

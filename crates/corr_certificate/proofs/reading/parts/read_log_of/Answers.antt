@@ -1,6 +1,6 @@
 use Rattle.std.proofs.Common.{◌+◌, ◌∙◌, List, ap, sym, arith}
 use Rattle.sat_log.specs.Derivations.{Line}
-use Rattle.sat_log.specs.Pieces.{pieces}
+use Rattle.plain_text.specs.Pieces.{pieces}
 use Rattle.sat_log.specs.Parts.{part_from}
 use Rattle.corr_certificate.proofs.Sizes.{bad_within}
 use Rattle.corr_certificate.proofs.reading.parts.read_log_of.Goals as goal

@@ -1,5 +1,5 @@
 use Rattle.std.proofs.Common.{◌≡◌, length}
-use Rattle.sat_log.specs.Pieces.{pieces, last_of}
+use Rattle.plain_text.specs.Pieces.{pieces, last_of}
 use Rattle.corr_certificate.specs.ClassLines.{members_from}
 use Rattle.corr_certificate.proofs.reading.class_lines.Joining.join_members.Given as goal
 

@@ -1,6 +1,6 @@
 use Rattle.std.proofs.Common.{◌≡◌, ◌≤◌, ◌+◌, length}
 use Rattle.circ_model.specs.Meaning.{places_of}
-use Rattle.sat_log.specs.Pieces.{pieces, last_of}
+use Rattle.plain_text.specs.Pieces.{pieces, last_of}
 use Rattle.corr_certificate.specs.ClassLines.{classes_from}
 use Rattle.corr_certificate.proofs.reading.class_lines.Joining.read_lines.Given as goal
 

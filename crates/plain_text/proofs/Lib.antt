@@ -1,0 +1,5 @@
+pub mod Digits
+pub mod Placed
+pub mod Sizes
+pub mod Splits
+pub mod Again

@@ -1,5 +1,0 @@
-use Rattle.sat_log.specs.Pieces.{HasNone}
-use Rattle.sat_log.proofs.pieces.place_of.Given as goal
-
-abbrev pub invariant-loop-at : goal.invariant-loop-at
-invariant-loop-at l = HasNone l.separator l.bytes l.at
