@@ -5,9 +5,9 @@ use Rattle.circ_model.specs.declared.netlist.Latch.{Latch}
 use Rattle.circ_model.specs.Netlist.{Netlist}
 use Rattle.aiger_codec.specs.declared.header.Header.{Header}
 use Rattle.aiger_codec.specs.declared.section.Section.TheVariants.{Latches, Outputs, Gates}
-use Rattle.aiger_text.proofs.Items.{latches_given, outputs_given, gates_given}
-use Rattle.aiger_text.proofs.Bodies.{whole}
-use Rattle.aiger_text.proofs.Again.{section_again}
+use Rattle.aiger_codec.proofs.Items.{latches_given, outputs_given, gates_given}
+use Rattle.aiger_codec.proofs.SectionItems.{whole}
+use Rattle.aiger_codec.proofs.SectionItems.{section_again}
 use Rattle.aiger_binary.specs.Binary.{of_inputs, latch_at, gate_at, each_from, binary_at}
 use Rattle.aiger_binary.specs.Grammar.{SpellsLatch, SpellsGate, SpellsBinary}
 use Rattle.aiger_binary.proofs.Items.{latch_again, gate_again, after}

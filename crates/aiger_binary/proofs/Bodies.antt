@@ -7,10 +7,10 @@ use Rattle.aig_graph.specs.Given.{is_defined, bad_var, with_input}
 use Rattle.aiger_codec.specs.declared.header.Header.{Header}
 use Rattle.aiger_codec.specs.declared.section.Section.TheVariants.{Inputs, Latches, Outputs, Gates}
 use Rattle.aiger_codec.specs.Sections.{items_at, nothing_given}
-use Rattle.aiger_text.proofs.Room.{bind_is, refused, given_is}
-use Rattle.aiger_text.proofs.Items.{latches_given, outputs_given, gates_given, inputs_given}
-use Rattle.aiger_text.proofs.Cells.{HasCells, cells_items, no_cells, may_be_given}
-use Rattle.aiger_text.proofs.Bodies.{taken, whole}
+use Rattle.aiger_codec.proofs.Room.{bind_is, refused, given_is}
+use Rattle.aiger_codec.proofs.Items.{latches_given, outputs_given, gates_given, inputs_given}
+use Rattle.aiger_codec.proofs.Cells.{HasCells, cells_items, no_cells, may_be_given}
+use Rattle.aiger_codec.proofs.SectionItems.{taken, whole}
 use Rattle.aiger_binary.specs.Binary.{of_inputs, latch_at, gate_at, each_from, binary_at}
 use Rattle.aiger_binary.specs.Grammar.{SpellsLatch, SpellsGate, SpellsBinary, IsBinary}
 use Rattle.aiger_binary.proofs.Items.{latch_take, gate_take, gate_adds}

@@ -9,7 +9,7 @@ use Rattle.circ_model.specs.declared.netlist.Gate.{Gate}
 use Rattle.circ_model.specs.Netlist.{Netlist}
 use Rattle.aig_graph.specs.Given.{is_defined}
 use Rattle.aiger_codec.specs.declared.section.Section.TheVariants.{Inputs, Latches, Outputs, Gates}
-use Rattle.aiger_text.proofs.Items.{with_item, with_items, IsFree, MayAll}
+use Rattle.aiger_codec.proofs.Items.{with_item, with_items, IsFree, MayAll}
 use Rattle.aiger_binary.specs.Grammar.{SpellsEach, SpellsLatch, SpellsGate}
 
 -- each variable that is defined stands below this one

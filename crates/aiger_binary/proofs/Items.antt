@@ -19,9 +19,9 @@ use Rattle.aiger_codec.proofs.DeltaLaws.{delta_spelled, delta_read}
 use Rattle.aiger_codec.proofs.Ends.{line_read}
 use Rattle.aiger_codec.proofs.LineLaws.{line_is}
 use Rattle.aiger_codec.proofs.Spelled.{line_takes, line_again}
-use Rattle.aiger_text.specs.Grammar.{Item}
-use Rattle.aiger_text.proofs.Room.{bind_is, placed_is}
-use Rattle.aiger_text.proofs.Items.{with_item, MayAdd, item_adds, item_added}
+use Rattle.aiger_codec.specs.SectionGrammar.{Item}
+use Rattle.aiger_codec.proofs.Room.{bind_is, placed_is}
+use Rattle.aiger_codec.proofs.Items.{with_item, MayAdd, item_adds, item_added}
 use Rattle.aiger_binary.specs.Binary.{latch_at, taken, gate_at}
 use Rattle.aiger_binary.specs.Grammar.{SpellsLatch, SpellsGate}
 

@@ -3,9 +3,9 @@ use Rattle.std.proofs.Common.{◌≡◌, ◌∙◌, ℕ, zero, suc, ◌+◌, ◌
 use Rattle.circ_model.specs.Netlist.{Netlist}
 use Rattle.aiger_codec.specs.declared.fault.NetFault.{NetFault}
 use Rattle.aiger_codec.specs.declared.section.Section.{Section}
-use Rattle.aiger_text.specs.Grammar.{Item}
-use Rattle.aiger_text.proofs.Room.{bind_is}
-use Rattle.aiger_text.proofs.Items.{with_item, with_items, MayAdd, MayAll}
+use Rattle.aiger_codec.specs.SectionGrammar.{Item}
+use Rattle.aiger_codec.proofs.Room.{bind_is}
+use Rattle.aiger_codec.proofs.Items.{with_item, with_items, MayAdd, MayAll}
 use Rattle.aiger_binary.specs.Binary.{each_from}
 use Rattle.aiger_binary.specs.Grammar.{SpellsEach}
 use Rattle.aiger_binary.proofs.Items.{One, after}

@@ -9,7 +9,7 @@ use Rattle.aiger_codec.specs.declared.header.Header.{Header}
 use Rattle.aiger_codec.specs.declared.section.Section.TheVariants.{Outputs}
 use Rattle.aiger_codec.specs.Deltas.{IsSpelled}
 use Rattle.aiger_codec.specs.Grammar.{SpellsLine}
-use Rattle.aiger_text.specs.Grammar.{SpellsSection}
+use Rattle.aiger_codec.specs.SectionGrammar.{SpellsSection}
 use Rattle.aiger_binary.specs.Binary.{binary_at}
 
 -- items one after the other, each of the next variable

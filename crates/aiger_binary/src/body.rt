@@ -6,23 +6,19 @@ ghost use Rattle.aiger_binary.specs.Grammar.{IsBinary, SpelledIsRead};
 use crate::gate::read_gates;
 use crate::latch::read_latches;
 use aig_graph::NetBuilder;
-use aiger_codec::{Header, NetError, Section};
-use aiger_text::read_items;
-use std::alloc::Global;
+use aiger_codec::{Header, NetError, Section, read_items};
+use std::alloc::{AllocError, Global};
 
 // A builder with the inputs: the variables from 1 up.
-fn define_inputs(alloc: Global, header: &Header) -> Result<NetBuilder, NetError>
+fn define_inputs(alloc: Global, header: &Header) -> Result<NetBuilder, AllocError>
     requires max_var { header.now.m ≤ 1000000 }
     requires inputs { header.now.i ≤ header.now.m }
     ensures { IfOk result (λ b. b ≡ of_inputs header.now.m header.now.i) }
 {
-    let mut builder = match NetBuilder::new(alloc, header.m) {
-        Err(_) => return Err(NetError::Memory),
-        Ok(builder) => builder,
-    };
+    let mut builder = NetBuilder::new(alloc, header.m)?;
     for i in 0..header.i {
         match builder.input(i + 1) {
-            Err(_) => return Err(NetError::Memory),
+            Err(_) => return Err(AllocError),
             Ok(()) => {}
         }
     }
@@ -43,10 +39,7 @@ pub fn read_binary(
     ensures reads { ReadsBody result (binary_at header.now bytes.now) }
     ensures spelled { IfOk result (λ r. IsBinary header.now bytes.now r.0 r.1) }
 {
-    let mut builder = match define_inputs(alloc, header) {
-        Err(_) => return Err(NetError::Memory),
-        Ok(builder) => builder,
-    };
+    let mut builder = define_inputs(alloc, header)?;
     let first = header.i + 1;
     let at = read_latches(header.l, first, bytes, header.end as usize, &mut builder)?;
     let at = read_items(Section::Outputs, header.o, bytes, at, &mut builder)?;

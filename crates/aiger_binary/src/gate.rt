@@ -5,8 +5,7 @@ ghost use Rattle.aiger_codec.specs.Sections.{Reads, Fails};
 ghost use Rattle.aiger_binary.specs.Binary.{taken, gate_at, each_from};
 
 use aig_graph::NetBuilder;
-use aiger_codec::{Delta, NetError, NetFault, NetKind, read_delta};
-use aiger_text::error_of;
+use aiger_codec::{Delta, NetError, NetFault, NetKind, error_of, read_delta};
 use circ_model::Lit;
 
 // A number of the gate that begins at a place, and the place after it.
@@ -26,14 +25,8 @@ fn read_gate(var: u32, bytes: &[u8], at: u64, builder: &mut NetBuilder) -> Resul
     requires { var < 2 ^ 31 }
     ensures { Reads result builder.new (gate_at bytes.now var (builder.old, at)) }
 {
-    let (first, middle) = match take(bytes, at, at) {
-        Err(fault) => return Err(NetError::Refused(fault)),
-        Ok(found) => found,
-    };
-    let (second, end) = match take(bytes, middle, at) {
-        Err(fault) => return Err(NetError::Refused(fault)),
-        Ok(found) => found,
-    };
+    let (first, middle) = take(bytes, at, at)?;
+    let (second, end) = take(bytes, middle, at)?;
     let own = 2 * var;
     if first == 0 || first > own || second > own - first {
         return Err(NetError::Refused(NetFault {
@@ -70,10 +63,7 @@ pub fn read_gates(
 {
     let mut at = start;
     for i in 0..count {
-        match read_gate(first + i, bytes, at, builder) {
-            Err(error) => return Err(error),
-            Ok(end) => at = end,
-        }
+        at = read_gate(first + i, bytes, at, builder)?;
     }
     Ok(at)
 }

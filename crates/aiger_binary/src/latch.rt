@@ -4,8 +4,7 @@ ghost use Rattle.aiger_codec.specs.Sections.{Reads, Fails};
 ghost use Rattle.aiger_binary.specs.Binary.{latch_at, each_from};
 
 use aig_graph::NetBuilder;
-use aiger_codec::{NetError, read_line};
-use aiger_text::{error_of, literal};
+use aiger_codec::{NetError, error_of, literal, read_line};
 
 #[tactic(auto, unfolding(crate::specs::Binary::latch_at))]
 fn read_latch(
@@ -17,16 +16,12 @@ fn read_latch(
 ) -> Result<usize, NetError>
     ensures { Reads result builder.new (latch_at bytes.now var (builder.old, at)) }
 {
-    match read_line(bytes, at, 1, 2, numbers) {
-        Err(fault) => Err(NetError::Refused(fault)),
-        Ok((count, end)) => {
-            let next = literal(numbers, count, 0);
-            let reset = literal(numbers, count, 1);
-            match builder.latch(var, next, reset) {
-                Err(fault) => Err(error_of(fault, at as u64)),
-                Ok(()) => Ok(end),
-            }
-        }
+    let (count, end) = read_line(bytes, at, 1, 2, numbers)?;
+    let next = literal(numbers, count, 0);
+    let reset = literal(numbers, count, 1);
+    match builder.latch(var, next, reset) {
+        Err(fault) => Err(error_of(fault, at as u64)),
+        Ok(()) => Ok(end),
     }
 }
 
@@ -44,10 +39,7 @@ pub fn read_latches(
     let mut numbers = [0u32; 9];
     let mut at = start;
     for i in 0..count {
-        match read_latch(first + i, bytes, at, &mut numbers, builder) {
-            Err(error) => return Err(error),
-            Ok(end) => at = end,
-        }
+        at = read_latch(first + i, bytes, at, &mut numbers, builder)?;
     }
     Ok(at)
 }

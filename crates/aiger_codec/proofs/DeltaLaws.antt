@@ -5,7 +5,7 @@ use Rattle.aiger_codec.specs.declared.delta.Delta.{Delta}
 use Rattle.aiger_codec.specs.declared.delta.Delta.TheVariants.{Value, Cut, Wide}
 use Rattle.aiger_codec.specs.Deltas.{under, spelled_at, below_limit, delta_at, IsSpelled, shortest_in, shortest}
 use Rattle.aiger_codec.specs.Laws.{StandsAt}
-use Rattle.aiger_codec.proofs.Ends.{chosen}
+use Rattle.plain_text.proofs.Choices.{chosen}
 use Rattle.aiger_codec.proofs.DeltaSteps.{first_byte}
 
 -- no other spelling is shorter

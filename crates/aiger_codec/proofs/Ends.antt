@@ -4,15 +4,8 @@ use Rattle.std.specs.Prelude.{Ok}
 use Rattle.std.proofs.lemmas.Bool.{eq-eqb, eqb-true, le-leb}
 use Rattle.std.proofs.lemmas.List.{get_or-drop}
 use Rattle.plain_text.specs.Numbers.{digits, capped, value_from, number_of, number_at}
+use Rattle.plain_text.proofs.Choices.{chosen}
 use Rattle.aiger_codec.specs.Lines.{has_end, before_others, after_number, numbers_at, line_at}
-
--- which of two values a choice is
-pub record Chosen {A : Type 0} (b : Bool) (x y z : A) : Type 0 where
-  pub which : ((b ≡ true) × (x ≡ z)) ⊎ ((b ≡ false) × (y ≡ z))
-
-pub chosen : {A : Type 0} (b : Bool) (x y z : A) → cond b x y ≡ z → ((b ≡ true) × (x ≡ z)) ⊎ ((b ≡ false) × (y ≡ z))
-chosen true x y z e = inl (refl, e)
-chosen false x y z e = inr (refl, e)
 
 pub ends_here : (bytes : List ℕ) (k : ℕ) → get_or bytes k 0 ≡ 10 → has_end bytes ≡ true
 ends_here [] k e = absurd (omega arith)

@@ -8,7 +8,7 @@ use Rattle.aiger_codec.specs.Laws.{StandsAt}
 use Rattle.aiger_codec.specs.declared.fault.NetFault.{NetFault}
 use Rattle.aiger_codec.specs.declared.fault.NetKind.{NetKind}
 use Rattle.aiger_codec.specs.declared.header.Header.{Header}
-use Rattle.aiger_codec.proofs.Ends.{chosen}
+use Rattle.plain_text.proofs.Choices.{chosen}
 use Rattle.aiger_codec.proofs.Spelled.{byte_here, line_takes, and_both}
 use Rattle.aiger_codec.proofs.LineLaws.{no_more}
 

@@ -3,7 +3,8 @@ use Rattle.std.proofs.Common.{◌≡◌, ℕ, ◌≤◌, inl, inr, Bool, true, e
 use Rattle.std.proofs.lemmas.Bool.{le-leb}
 use Rattle.aiger_codec.specs.Lines.{has_end}
 use Rattle.aiger_codec.specs.Header.{form_of, header_numbers, checked, header_at}
-use Rattle.aiger_codec.proofs.Ends.{chosen, ends_here, read_ends}
+use Rattle.plain_text.proofs.Choices.{chosen}
+use Rattle.aiger_codec.proofs.Ends.{ends_here, read_ends}
 
 pub header_ends : (bytes : List ℕ) (x : List ℕ × ℕ) → header_numbers bytes ≡ Some x → has_end bytes ≡ true
 unfolding header_numbers

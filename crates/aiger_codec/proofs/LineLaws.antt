@@ -2,14 +2,15 @@
 use Rattle.std.proofs.Common.{◌≡◌, ℕ, zero, suc, ◌+◌, ◌≤◌, inl, inr, leb, List, [], ◌∷◌, ◌++◌, length, drop, Option, Some, None, Result, Ok, Err, refl, sym, ap, subst, ◌∙◌, arith}
 use Rattle.std.specs.List.{AllByRecursion}
 use Rattle.std.proofs.lemmas.Bool.{leb-true}
-use Rattle.plain_text.specs.Numbers.{IsDigit, digits, number_of, number_at}
+use Rattle.plain_text.specs.Numbers.{IsDigit, SpellsNumber, digits, number_of, number_at}
 use Rattle.aiger_codec.specs.Lines.{has_end, has_count, numbers_at, line_at}
-use Rattle.aiger_codec.specs.Grammar.{SpellsNumber, SpellsLine}
+use Rattle.aiger_codec.specs.Grammar.{SpellsLine}
 use Rattle.aiger_codec.specs.Laws.{StandsAt}
 use Rattle.aiger_codec.specs.declared.fault.NetFault.{NetFault}
-use Rattle.aiger_codec.proofs.Ends.{chosen, first_of, others_of, line_read}
-use Rattle.plain_text.proofs.Again.{is_of_digit}
-use Rattle.aiger_codec.proofs.Spelled.{number_made, number_takes, line_takes, line_again}
+use Rattle.plain_text.proofs.Choices.{chosen}
+use Rattle.aiger_codec.proofs.Ends.{first_of, others_of, line_read}
+use Rattle.plain_text.proofs.Again.{is_of_digit, number_made}
+use Rattle.aiger_codec.proofs.Spelled.{number_takes, line_takes, line_again}
 
 pub no_more : (most : ℕ) (bytes : List ℕ) (at : ℕ) (x : List ℕ × ℕ) → numbers_at most bytes at ≡ Some x → length x.0 ≤ most
 unfolding numbers_at

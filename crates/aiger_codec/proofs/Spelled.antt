@@ -4,10 +4,10 @@ use Rattle.std.specs.List.{AllByRecursion}
 use Rattle.std.proofs.lemmas.Bool.{cases_lt, eq-eqb, ne_eqb, leb-true}
 use Rattle.std.proofs.lemmas.List.{get_or-drop, get_or_past, drop-drop}
 use Rattle.std.proofs.Math.Seq.{get_or-append_seam, drop-append-add}
-use Rattle.plain_text.specs.Numbers.{IsDigit, is_digit, digits, capped, value_from, number_of, number_at}
-use Rattle.plain_text.proofs.Again.{is_of_digit}
+use Rattle.plain_text.specs.Numbers.{IsDigit, SpellsNumber, is_digit, digits, capped, value_from, number_of, number_at}
+use Rattle.plain_text.proofs.Again.{is_of_digit, number_made}
 use Rattle.aiger_codec.specs.Lines.{numbers_at}
-use Rattle.aiger_codec.specs.Grammar.{SpellsNumber, SpellsLine}
+use Rattle.aiger_codec.specs.Grammar.{SpellsLine}
 use Rattle.aiger_codec.proofs.Ends.{some_is, first_of, others_of}
 
 -- a text stands at a place
@@ -48,10 +48,6 @@ number_takes bytes at n end e =
 digits_of_text : (text : List ℕ) (b : ℕ) (rest : List ℕ) → AllByRecursion IsDigit text → is_digit b ≡ false → digits (text ++ b ∷ rest) ≡ text
 digits_of_text [] b rest all e = rw e refl
 digits_of_text (d ∷ text) b rest all e = let t = is_of_digit d all.0 in let h = digits_of_text text b rest all.1 e in rw (t, h) refl
-
-pub number_made : (text : List ℕ) (at n : ℕ) → SpellsNumber text n → number_of text at ≡ Some (n, at + length text)
-number_made [] at n s = absurd (omega (arith, s.some))
-number_made (d ∷ ds) at n s = ap (λ (v : ℕ). Some (v, at + length (d ∷ ds))) (sym s.value)
 
 pub number_again : (bytes : List ℕ) (at : ℕ) (text : List ℕ) (n b : ℕ) (rest : List ℕ) → SpellsNumber text n → is_digit b ≡ false → Stands bytes at text (b ∷ rest) → number_at bytes at ≡ Some (n, at + length text)
 unfolding number_at

@@ -2,13 +2,13 @@
 use Rattle.std.proofs.Common.{◌≡◌, ℕ, ◌+◌, ◌<◌, inl, inr, Bool, true, false, eqb, List, [], ◌∷◌, ◌++◌, length, drop, get_or, Option, Some, None, Ok, refl, sym, ap, ◌∙◌, arith, append_assoc, length-append, add-one, drop-cons}
 use Rattle.std.specs.List.{AllByRecursion}
 use Rattle.std.proofs.lemmas.Bool.{eq-eqb, eqb-true, ne_eqb, lt-ltb, ltb-true}
-use Rattle.plain_text.specs.Numbers.{IsDigit, number_at}
+use Rattle.plain_text.specs.Numbers.{IsDigit, SpellsNumber, number_at}
 use Rattle.aiger_codec.specs.Lines.{has_end}
 use Rattle.aiger_codec.specs.Symbols.{first_end, count_of, is_named, named_line, symbol_at}
-use Rattle.aiger_codec.specs.Grammar.{SpellsNumber, SpellsSymbol}
+use Rattle.aiger_codec.specs.Grammar.{SpellsSymbol}
 use Rattle.aiger_codec.specs.Laws.{StandsAt}
 use Rattle.aiger_codec.specs.declared.symbols.Counts.{Counts}
-use Rattle.aiger_codec.proofs.Ends.{chosen}
+use Rattle.plain_text.proofs.Choices.{chosen}
 use Rattle.aiger_codec.proofs.Spelled.{Stands, number_takes, number_again, byte_here, byte_after, rest_after, and_both}
 use Rattle.aiger_codec.proofs.DeltaSteps.{first_byte}
 

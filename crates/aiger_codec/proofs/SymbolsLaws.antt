@@ -8,7 +8,7 @@ use Rattle.aiger_codec.specs.Grammar.{SpellsSymbol, SpellsSymbols, IsUnread}
 use Rattle.aiger_codec.specs.Laws.{StandsAt}
 use Rattle.aiger_codec.specs.declared.fault.NetFault.{NetFault}
 use Rattle.aiger_codec.specs.declared.symbols.Counts.{Counts}
-use Rattle.aiger_codec.proofs.Ends.{chosen}
+use Rattle.plain_text.proofs.Choices.{chosen}
 use Rattle.aiger_codec.proofs.Spelled.{and_both}
 use Rattle.aiger_codec.proofs.DeltaSteps.{first_byte}
 use Rattle.aiger_codec.proofs.DeltaLaws.{byte_at}

@@ -1,19 +1,12 @@
 -- What spells a number, a line of numbers, the header and a symbol line: relations between the whole text and what it
 -- says, apart from the readers.
 use Rattle.std.specs.Prelude.{◌≡◌, ℕ, zero, suc, ◌+◌, ◌<◌, ◌≤◌, Bool, true, false, List, [], ◌∷◌, ◌++◌, length, slice_index, codes}
-use Rattle.std.specs.List.{AllByRecursion}
-use Rattle.plain_text.specs.Numbers.{IsDigit, capped, value_from}
+use Rattle.plain_text.specs.Numbers.{SpellsNumber}
 use Rattle.aiger_codec.specs.Header.{IsWithinLimits}
 use Rattle.aiger_codec.specs.Lines.{has_end}
 use Rattle.aiger_codec.specs.Symbols.{count_of}
 use Rattle.aiger_codec.specs.declared.header.Header.{Header}
 use Rattle.aiger_codec.specs.declared.symbols.Counts.{Counts}
-
--- one or more decimal digits; a value past 4294967295 counts as 4294967295
-pub record SpellsNumber (text : List ℕ) (n : ℕ) : Type 0 where
-  pub some : 0 < length text
-  pub digits : AllByRecursion IsDigit text
-  pub value : n ≡ capped (value_from 0 text)
 
 -- one space between numbers, and LF at the end
 abbrev pub SpellsLine : List ℕ → List ℕ → Type 0

@@ -1,8 +1,8 @@
 -- What is read is spelled so, and what is spelled so is read, whatever follows.
 use Rattle.std.specs.Prelude.{◌≡◌, ℕ, ◌+◌, ◌^◌, ◌<◌, ◌≤◌, List, [], ◌++◌, length, drop, slice_index, Some, Ok}
-use Rattle.plain_text.specs.Numbers.{digits, number_at}
+use Rattle.plain_text.specs.Numbers.{SpellsNumber, digits, number_at}
 use Rattle.aiger_codec.specs.Lines.{line_at}
-use Rattle.aiger_codec.specs.Grammar.{SpellsNumber, SpellsLine, SpellsHeader, SpellsSymbols, IsUnread}
+use Rattle.aiger_codec.specs.Grammar.{SpellsLine, SpellsHeader, SpellsSymbols, IsUnread}
 use Rattle.aiger_codec.specs.Header.{header_at}
 use Rattle.aiger_codec.specs.Symbols.{symbols_at}
 use Rattle.aiger_codec.specs.declared.header.Header.{Header}

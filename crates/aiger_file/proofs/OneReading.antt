@@ -11,13 +11,13 @@ use Rattle.aiger_codec.specs.Lines.{fault}
 use Rattle.aiger_codec.specs.Header.{header_at, IsWithinLimits}
 use Rattle.aiger_codec.specs.Sections.{items_at, body_at, nothing_given}
 use Rattle.aiger_codec.proofs.HeaderLaws.{header_spelled}
-use Rattle.aiger_text.specs.Room.{HasRoom}
-use Rattle.aiger_text.specs.Grammar.{IsLine}
-use Rattle.aiger_text.proofs.Room.{bind_is, items_keep}
-use Rattle.aiger_text.proofs.Lines.{items_take}
-use Rattle.aiger_text.proofs.Items.{all_add}
-use Rattle.aiger_text.proofs.Cells.{HasCells, cells_items, no_cells}
-use Rattle.aiger_text.proofs.Bodies.{same_length}
+use Rattle.aiger_codec.specs.Room.{HasRoom}
+use Rattle.aiger_codec.specs.SectionGrammar.{IsLine}
+use Rattle.aiger_codec.proofs.Room.{bind_is, items_keep}
+use Rattle.aiger_codec.proofs.Lines.{items_take}
+use Rattle.aiger_codec.proofs.Items.{all_add}
+use Rattle.aiger_codec.proofs.Cells.{HasCells, cells_items, no_cells}
+use Rattle.aiger_codec.proofs.SectionItems.{same_length}
 use Rattle.aiger_file.specs.Files.{in_form, after_symbols, given_at, IsWrong, IsNetlistFile, IsFirstFault}
 use Rattle.aiger_binary.proofs.Bodies.{binary_cells}
 use Rattle.aiger_file.proofs.OneNetlist.{one_netlist, none_undefined, finished_defined, finished_levelled}

@@ -11,7 +11,7 @@ use Rattle.aiger_codec.specs.Symbols.{symbols_at}
 use Rattle.aiger_codec.proofs.HeaderLaws.{header_spelled}
 use Rattle.aiger_codec.proofs.HeaderAgain.{header_is_read}
 use Rattle.aiger_codec.proofs.SymbolsLaws.{symbols_spelled, symbols_read}
-use Rattle.aiger_text.proofs.Room.{bind_is}
+use Rattle.aiger_codec.proofs.Room.{bind_is}
 use Rattle.aiger_text.proofs.Bodies.{body_take}
 use Rattle.aiger_text.proofs.Again.{body_again}
 use Rattle.aiger_binary.proofs.Bodies.{binary_take}

@@ -19,8 +19,9 @@ use Rattle.aiger_codec.specs.Grammar.{SpellsLine, magic}
 use Rattle.aiger_codec.specs.Sections.{least, most}
 use Rattle.aiger_codec.specs.Writing.{line_text, lines_text, input_text, reset_numbers, latch_text, output_text, gate_text, net_text}
 use Rattle.aiger_codec.proofs.WrittenLines.{line_spelled}
-use Rattle.aiger_text.specs.Grammar.{Item, IsLine, SpellsLines, SpellsSection, SpellsBody, MayBeGiven}
-use Rattle.aiger_text.proofs.Cells.{HasCells}
+use Rattle.aiger_codec.specs.SectionGrammar.{Item, IsLine, SpellsLines, SpellsSection, MayBeGiven}
+use Rattle.aiger_text.specs.Grammar.{SpellsBody}
+use Rattle.aiger_codec.proofs.Cells.{HasCells}
 use Rattle.aiger_text.proofs.Again.{body_again}
 use Rattle.aiger_file.specs.Files.{IsNetlistFile}
 use Rattle.aiger_file.proofs.OneReading.{body_cells}

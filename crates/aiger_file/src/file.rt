@@ -27,23 +27,15 @@ fn read_body(alloc: Global, bytes: &[u8], header: &Header) -> Result<(NetBuilder
 pub fn read_netlist(alloc: Global, bytes: &[u8]) -> Result<Netlist, NetError>
     ensures { IsReading bytes.now result }
 {
-    let header = match read_header(bytes) {
-        Ok(header) => header,
-        Err(fault) => return Err(NetError::Refused(fault)),
-    };
-    let (builder, end) = match read_body(alloc, bytes, &header) {
-        Ok(read) => read,
-        Err(error) => return Err(error),
-    };
+    let header = read_header(bytes)?;
+    let (builder, end) = read_body(alloc, bytes, &header)?;
     let counts = Counts {
         inputs: header.i,
         latches: header.l,
         outputs: header.o,
     };
-    match read_symbols(&counts, bytes, end as usize) {
-        Ok(_) => finish(alloc, builder),
-        Err(fault) => Err(NetError::Refused(fault)),
-    }
+    read_symbols(&counts, bytes, end as usize)?;
+    finish(alloc, builder)
 }
 
 // The netlist, or what is wrong with the whole.

@@ -13,10 +13,10 @@ use Rattle.aiger_codec.specs.declared.header.Header.{Header}
 use Rattle.aiger_codec.specs.declared.section.Section.{Section}
 use Rattle.aiger_codec.specs.declared.section.Section.TheVariants.{Inputs, Latches, Outputs, Gates}
 use Rattle.aiger_codec.specs.Sections.{items_at, body_at, nothing_given}
-use Rattle.aiger_text.specs.Grammar.{Item, IsLine, SpellsSection, SpellsBody, MayBeGiven}
-use Rattle.aiger_text.proofs.Lines.{items_again}
-use Rattle.aiger_text.proofs.Items.{with_item, with_items, IsFree, MayAdd, MayAll, all_added, inputs_given, latches_given, outputs_given, gates_given}
-use Rattle.aiger_text.proofs.Bodies.{same_length, whole}
+use Rattle.aiger_codec.specs.SectionGrammar.{Item, IsLine, SpellsSection, MayBeGiven}
+use Rattle.aiger_text.specs.Grammar.{SpellsBody}
+use Rattle.aiger_codec.proofs.Items.{with_item, with_items, IsFree, MayAdd, MayAll, all_added, inputs_given, latches_given, outputs_given, gates_given}
+use Rattle.aiger_codec.proofs.SectionItems.{section_again, whole}
 
 -- ---- the variables grow at their end
 
@@ -137,14 +137,6 @@ gate_names [] = refl
 gate_names (x ∷ xs) = ap (λ (l : List ℕ). x.var ∷ l) (gate_names xs)
 
 -- ---- sections, and the whole
-
-pub section_again : (s : Section) (bytes : List ℕ) (at n : ℕ) (text rest : List ℕ) (g h : Netlist) (xs : List (Item s)) → SpellsSection s text xs → MayAll s g xs → with_items s g xs ≡ h → length xs ≡ n → drop at bytes ≡ text ++ rest
-    → items_at s n bytes (g, at) ≡ Ok (h, at + length text)
-section_again s bytes at n text rest g h xs spelled may is count stands =
-    let adds = all_added s spelled.lines xs g spelled.each may ∙ ap (λ (x : Netlist). Ok x) is in
-    let r = items_again s spelled.lines bytes at text rest g h spelled.spelled (record { is = stands }) adds in
-    let k : length spelled.lines ≡ n = sym (same_length (IsLine s) spelled.lines xs spelled.each) ∙ count in
-    ap (λ (j : ℕ). items_at s j bytes (g, at)) (sym k) ∙ r
 
 after : (bytes : List ℕ) (at : ℕ) (text rest : List ℕ) → drop at bytes ≡ text ++ rest → drop (at + length text) bytes ≡ rest
 after bytes at text rest is = sym (drop-drop (length text) at bytes) ∙ ap (λ (l : List ℕ). drop (length text) l) is ∙ drop-append_seam text rest

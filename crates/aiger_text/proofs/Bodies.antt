@@ -8,49 +8,12 @@ use Rattle.aiger_codec.specs.declared.header.Header.{Header}
 use Rattle.aiger_codec.specs.declared.section.Section.{Section}
 use Rattle.aiger_codec.specs.declared.section.Section.TheVariants.{Inputs, Latches, Outputs, Gates}
 use Rattle.aiger_codec.specs.Sections.{items_at, body_at, nothing_given}
-use Rattle.aiger_text.specs.Grammar.{Item, IsLine, SpellsSection, SpellsBody, MayBeGiven, IsSpelled}
-use Rattle.aiger_text.proofs.Room.{bind_is}
-use Rattle.aiger_text.proofs.Lines.{items_take}
-use Rattle.aiger_text.proofs.Items.{with_items, MayAll, all_add, inputs_given, latches_given, outputs_given, gates_given}
-use Rattle.aiger_text.proofs.Cells.{HasCells, cells_items, no_cells, may_be_given}
-
--- ---- what was read of a section, as items
-
-pub record Taken (s : Section) (bytes : List ℕ) (g : Netlist) (at n : ℕ) (t : Netlist × ℕ) : Type 0 where
-  pub items : List (Item s)
-  pub text : List ℕ
-  pub spelled : SpellsSection s text items
-  pub stands : drop at bytes ≡ text ++ drop t.1 bytes
-  pub end : t.1 ≡ at + length text
-  pub count : length items ≡ n
-  pub may : MayAll s g items
-  pub is : with_items s g items ≡ t.0
-
-pub same_length : {X : Type 0} (P : List ℕ → X → Type 0) (lines : List (List ℕ)) (xs : List X) → AllZip P lines xs → length xs ≡ length lines
-same_length P [] [] z = refl
-same_length P [] (x ∷ xs) z = absurd z
-same_length P (l ∷ lines) [] z = absurd z
-same_length P (l ∷ lines) (x ∷ xs) z = let h = same_length P lines xs z.1 in omega arith
-
-pub taken : (s : Section) (bytes : List ℕ) (g : Netlist) (at n : ℕ) (t : Netlist × ℕ) → items_at s n bytes (g, at) ≡ Ok t → Taken s bytes g at n t
-taken s bytes g at n t e =
-    let r = items_take s n bytes (g, at) t e in
-    let a = all_add s r.lines g t.0 r.adds in
-    record {
-      items = a.0;
-      text = r.text;
-      spelled = record { lines = r.lines; spelled = r.spelled; each = a.1 };
-      stands = r.stands.is;
-      end = r.end;
-      count = same_length (IsLine s) r.lines a.0 a.1 ∙ r.count;
-      may = a.2;
-      is = a.3;
-    }
-
--- ---- the whole
-
-abbrev pub whole : ℕ → List ℕ → List Latch → List ℕ → List Gate → Netlist
-whole m is ls os qs = record { max_var = m; inputs = is; latches = ls; outputs = os; gates = qs }
+use Rattle.aiger_codec.specs.SectionGrammar.{Item, IsLine, SpellsSection, MayBeGiven}
+use Rattle.aiger_text.specs.Grammar.{SpellsBody, IsSpelled}
+use Rattle.aiger_codec.proofs.Room.{bind_is}
+use Rattle.aiger_codec.proofs.SectionItems.{taken, whole}
+use Rattle.aiger_codec.proofs.Items.{inputs_given, latches_given, outputs_given, gates_given}
+use Rattle.aiger_codec.proofs.Cells.{HasCells, cells_items, no_cells, may_be_given}
 
 pub body_take : (h : Header) (bytes : List ℕ) (t : Netlist × ℕ) → h.m ≤ 1000000 → h.o ≤ 1000000 → body_at h bytes ≡ Ok t → IsSpelled h bytes t.0 t.1
 unfolding body_at

@@ -2,9 +2,8 @@ ghost use Rattle.std.specs.Prelude.{◌≡◌, ◌≤◌, ◌<◌, ◌^◌, IfOk
 ghost use Rattle.aiger_text.specs.Grammar.{IsSpelled, SpelledIsRead};
 ghost use Rattle.aiger_codec.specs.Sections.{body_at, items_at, ReadsBody, Reads, nothing_given};
 
-use crate::section::read_items;
 use aig_graph::NetBuilder;
-use aiger_codec::{Header, NetError, Section};
+use aiger_codec::{Header, NetError, Section, read_items};
 use std::alloc::Global;
 
 /// The body of a text file, as it was given to a builder, and the place after it, or the first fault. The header is the file's own.
@@ -19,10 +18,7 @@ pub fn read_text(
     ensures reads { ReadsBody result (body_at header.now bytes.now) }
     ensures spelled { IfOk result (λ r. IsSpelled header.now bytes.now r.0 r.1) }
 {
-    let mut builder = match NetBuilder::new(alloc, header.m) {
-        Err(_) => return Err(NetError::Memory),
-        Ok(builder) => builder,
-    };
+    let mut builder = NetBuilder::new(alloc, header.m)?;
     let at = read_items(
         Section::Inputs,
         header.i,

@@ -3,7 +3,5 @@
 #![tactic(auto)]
 
 mod body;
-mod section;
 
 pub use body::{read_text, spelled_text_is_read};
-pub use section::{error_of, literal, read_items};

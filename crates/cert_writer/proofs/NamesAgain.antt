@@ -6,9 +6,7 @@ use Rattle.std.proofs.lemmas.Bool.{eq-eqb, ne_eqb, cases_eq}
 use Rattle.std.proofs.lemmas.Fmt.{decimal_digit, first_decimal}
 use Rattle.std.proofs.lemmas.List.{get_or_default, get_or-append-add}
 use Rattle.plain_text.specs.Numbers.{number_at}
-use Rattle.plain_text.proofs.Again.{decimal_spells, digits_whole, none_is}
-use Rattle.aiger_codec.proofs.Spelled.{number_made}
-use Rattle.aiger_codec.proofs.WrittenLines.{number_spelled}
+use Rattle.plain_text.proofs.Again.{decimal_spells, digits_whole, none_is, number_made, number_spelled}
 use Rattle.circ_model.specs.declared.netlist.Signal.{Signal}
 use Rattle.circ_model.specs.declared.netlist.Signal.TheVariants.{Const, Input, Left, Right}
 use Rattle.circ_model.specs.Netlist.{Netlist, IsSound, variables, own}

@@ -1,10 +1,10 @@
 -- Pieces and numbers that are written are read again.
-use Rattle.std.proofs.Common.{◌≡◌, ◌≢◌, ℕ, ◌+◌, ◌-◌, ◌*◌, ◌%◌, ◌^◌, ◌<◌, ◌≤◌, ◌&&◌, Bool, true, false, leb, List, [], ◌∷◌, ◌++◌, length, get_or, Some, refl, ◌∙◌, arith, decimal, length-append}
+use Rattle.std.proofs.Common.{◌≡◌, ◌≢◌, ℕ, ◌+◌, ◌-◌, ◌*◌, ◌%◌, ◌^◌, ◌<◌, ◌≤◌, ◌&&◌, Bool, true, false, leb, List, [], ◌∷◌, ◌++◌, length, get_or, Some, refl, sym, ap, ◌∙◌, arith, decimal, length-append}
 use Rattle.std.specs.List.{AllByRecursion}
 use Rattle.std.proofs.lemmas.Bool.{eq-eqb, ne_eqb, le-leb}
 use Rattle.std.proofs.lemmas.Fmt.{decimal_by_steps, first_decimal}
 use Rattle.plain_text.specs.Pieces.{pieces, last_of, is_byte}
-use Rattle.plain_text.specs.Numbers.{IsDigit, digits, is_digit, value_from}
+use Rattle.plain_text.specs.Numbers.{IsDigit, SpellsNumber, digits, is_digit, number_of, value_from}
 use Rattle.plain_text.specs.Words.{are_digits, number_word}
 
 -- a piece that is written before a separator is read again
@@ -44,6 +44,14 @@ is_of_digit b h = let a : _ ≡ true = le-leb _ _ h.0 in let c : _ ≡ true = le
 digits_all : (ds : List ℕ) → AllByRecursion IsDigit ds → are_digits ds ≡ true
 digits_all [] all = refl
 digits_all (d ∷ ds) all = let t = is_of_digit d all.0 in rw t (digits_all ds all.1)
+
+-- a number as it is written
+pub number_spelled : (n : ℕ) → n < 4294967296 → SpellsNumber (decimal n) n
+number_spelled n lt = let s = decimal_spells n (omega (arith, lt)) in record { some = s.some; digits = s.digits; value = omega (arith, s.value) }
+
+pub number_made : (text : List ℕ) (at n : ℕ) → SpellsNumber text n → number_of text at ≡ Some (n, at + length text)
+number_made [] at n s = absurd (omega (arith, s.some))
+number_made (d ∷ ds) at n s = ap (λ (v : ℕ). Some (v, at + length (d ∷ ds))) (sym s.value)
 
 -- digits that nothing follows are all read
 pub digits_whole : (ds : List ℕ) → AllByRecursion IsDigit ds → digits ds ≡ ds

@@ -1,5 +1,6 @@
 -- Decimal numbers of a text.
-use Rattle.std.specs.Prelude.{ℕ, ◌+◌, ◌-◌, ◌*◌, ◌≤◌, min, leb, Bool, ◌&&◌, if◌then◌else◌, List, [], ◌∷◌, length, drop, Option, Some, None}
+use Rattle.std.specs.Prelude.{◌≡◌, ℕ, ◌+◌, ◌-◌, ◌*◌, ◌<◌, ◌≤◌, min, leb, Bool, ◌&&◌, if◌then◌else◌, List, [], ◌∷◌, length, drop, Option, Some, None}
+use Rattle.std.specs.List.{AllByRecursion}
 
 abbrev pub IsDigit : ℕ → Type 0
 IsDigit b = (48 ≤ b) × (b ≤ 57)
@@ -27,3 +28,9 @@ number_of (d ∷ ds) at = Some (capped (value_from 0 (d ∷ ds)), at + length (d
 
 unfoldable pub number_at : List ℕ → ℕ → Option (ℕ × ℕ)
 number_at bytes at = number_of (digits (drop at bytes)) at
+
+-- one or more decimal digits; a value past 4294967295 counts as 4294967295
+pub record SpellsNumber (text : List ℕ) (n : ℕ) : Type 0 where
+  pub some : 0 < length text
+  pub digits : AllByRecursion IsDigit text
+  pub value : n ≡ capped (value_from 0 text)

@@ -2,12 +2,9 @@
 use Rattle.std.proofs.Common.{◌≡◌, ◌≢◌, ℕ, suc, ◌+◌, ◌<◌, Bool, true, false, ◌&&◌, List, [], ◌∷◌, ◌++◌, length, Some, None, Ok, refl, sym, ap, ◌∙◌, arith, append_assoc, append-nil, decimal}
 use Rattle.std.specs.List.{All, AllByRecursion}
 use Rattle.std.proofs.lemmas.Bool.{eq-eqb, ne_eqb, lt-ltb}
-use Rattle.plain_text.specs.Numbers.{number_at}
-use Rattle.plain_text.proofs.Again.{digits_whole, none_is, piece_again}
+use Rattle.plain_text.specs.Numbers.{SpellsNumber, number_at}
+use Rattle.plain_text.proofs.Again.{digits_whole, none_is, number_made, number_spelled, piece_again}
 use Rattle.plain_text.specs.Pieces.{is_byte}
-use Rattle.aiger_codec.specs.Grammar.{SpellsNumber}
-use Rattle.aiger_codec.proofs.Spelled.{number_made}
-use Rattle.aiger_codec.proofs.WrittenLines.{number_spelled}
 use Rattle.circ_model.specs.Meaning.{Pair, Path, IsRun, outputs_of, latches_of, resets}
 use Rattle.trace_witness.specs.Lines.{lines_of}
 use Rattle.trace_witness.specs.Bits.{are_marks, has_unknown, bits_fault, bits_of, is_against, breaks_tie, start_fault}
@@ -75,7 +72,7 @@ start_good pair run is =
     rw (g, a, t) refl
 
 frames_again : (width line : ℕ) (front rows : List (List Bool)) → All (λ r. length r ≡ width) rows → frames_of width line front (lines_of (frames_text rows)) ≡ Ok (front ++ rows)
-unfolding frames_of frames_text pieces
+unfolding frames_of frames_text
 frames_again width line front [] all =
     let p = piece_again 10 (46 ∷ []) [] ((λ e. omega arith), tt) in
     rw p (ap (λ (l : List (List Bool)). Ok l) (sym (append-nil front)))

@@ -1,13 +1,12 @@
 -- What is read is a run, and one of the outputs.
 use Rattle.std.proofs.Common.{◌≡◌, ◌<◌, ℕ, zero, suc, ◌+◌, ◌==◌, ◌&&◌, ltb, inl, inr, Bool, false, List, [], ◌∷◌, ◌++◌, length, Option, Some, None, Result, Ok, Err, IfOk, refl, subst, ◌∙◌, arith}
 use Rattle.std.specs.List.{All}
-use Rattle.std.proofs.lemmas.Bool.{eqb-true, ltb-true}
+use Rattle.std.proofs.lemmas.Bool.{and_parts, eqb-true, ltb-true}
 use Rattle.std.proofs.lemmas.List.{length-map}
 use Rattle.std.proofs.lemmas.List.Elements.{All-append}
 use Rattle.plain_text.specs.Numbers.{number_at}
 use Rattle.plain_text.specs.Pieces.{is_byte}
-use Rattle.aiger_codec.proofs.Ends.{chosen}
-use Rattle.aiger_codec.proofs.Spelled.{and_both}
+use Rattle.plain_text.proofs.Choices.{chosen}
 use Rattle.circ_model.specs.Meaning.{Pair, IsRun, outputs_of, latches_of, resets}
 use Rattle.trace_witness.specs.declared.read.Trace.{Trace}
 use Rattle.trace_witness.specs.declared.fault.TraceKind.{TraceKind}
@@ -135,7 +134,7 @@ no_name e = cc
 below_is : (outputs end output : ℕ) (n : Option (ℕ × ℕ)) → below outputs end n ≡ Some output → output < outputs
 below_is outputs end output None e = absurd (no_name e)
 below_is outputs end output (Some n) e = elim (chosen ((n.1 == end) && ltb n.0 outputs) (Some n.0) None (Some output) e) [
-  | inl p ↦ subst (λ (k : ℕ). k < outputs) (some_is n.0 output p.1) (ltb-true _ _ (and_both _ _ p.0).1)
+  | inl p ↦ subst (λ (k : ℕ). k < outputs) (some_is n.0 output p.1) (ltb-true _ _ (and_parts _ _ p.0).1)
   | inr p ↦ absurd (no_name p.1)
 ]
 

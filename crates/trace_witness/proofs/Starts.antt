@@ -1,7 +1,7 @@
 -- Rows of bits by what they hold, and start bits by their resets.
 use Rattle.std.proofs.Common.{◌≡◌, ◌<◌, ℕ, zero, suc, List, [], ◌∷◌, length, Bool, true, false, not, inl, inr, if◌then◌else◌, get_or, refl, ap, arith}
 use Rattle.std.proofs.lemmas.List.{ext_get_or}
-use Rattle.aiger_codec.proofs.Ends.{chosen}
+use Rattle.plain_text.proofs.Choices.{chosen}
 use Rattle.circ_model.specs.declared.netlist.Reset.{Reset}
 use Rattle.circ_model.specs.declared.netlist.Reset.TheVariants.{Zero, One, Free}
 use Rattle.circ_model.specs.Meaning.{bit, Pair, Path, IsRun, MayStartAt, resets}

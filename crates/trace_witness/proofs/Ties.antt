@@ -2,7 +2,7 @@
 use Rattle.std.proofs.Common.{◌≡◌, ◌∙◌, ◌<◌, ◌+◌, ◌&&◌, ℕ, zero, suc, List, [], ◌∷◌, length, inl, inr, Bool, true, false, if◌then◌else◌, get_or, refl, ap, sym, arith}
 use Rattle.std.specs.Prelude.{IsTrue}
 use Rattle.std.proofs.lemmas.List.{length-map, get_or-map}
-use Rattle.aiger_codec.proofs.Ends.{chosen}
+use Rattle.plain_text.proofs.Choices.{chosen}
 use Rattle.circ_model.specs.Meaning.{bit, Pair, Path, IsRun, StartsTied, free_latches}
 use Rattle.product_machine.specs.States.{ArePartners, StartsLike}
 use Rattle.product_machine.proofs.Partners.{partner_tied, run_starts}

@@ -1,13 +1,16 @@
 use Rattle.std.proofs.Common.{arith}
+use Rattle.std.proofs.lemmas.Result.{err_from_is_err_and}
 use Rattle.aiger_binary.specs.Binary.{gate_at}
 use Rattle.aiger_binary.proofs.Loops.{rest_more, rest_fails, rest_done}
 use Rattle.aiger_binary.proofs.gate.read_gates.Goals as goal
 
-pub returns-in-Err : goal.returns-in-Err
-returns-in-Err c = rest_fails (gate_at c.args.bytes.now) c.args.count c.args.first c.loop-i.i (c.loop-i.builder, c.loop-i.at) _ c.in-Err.error c.loop-i.invariant c.loop-i-test.true c.in-Err.ensures
+pub returns-in_err-at : goal.returns-in_err-at
+returns-in_err-at c =
+    let p = err_from_is_err_and c.from_residual.result c.from_residual.ensures.1 in
+    rw (p.1, p.2) (rest_fails (gate_at c.args.bytes.now) c.args.count c.args.first c.loop-i.i (c.loop-i.builder, c.loop-i.at) _ _ c.loop-i.invariant c.loop-i-test.true c.in_err-at.ensures)
 
 pub loop-i-preserved : goal.loop-i-preserved
-loop-i-preserved c = rest_more (gate_at c.args.bytes.now) c.args.count c.args.first c.loop-i.i (c.loop-i.builder, c.loop-i.at) _ _ c.loop-i.invariant c.loop-i-test.true c.in-Ok.ensures
+loop-i-preserved c = rest_more (gate_at c.args.bytes.now) c.args.count c.args.first c.loop-i.i (c.loop-i.builder, c.loop-i.at) _ _ c.loop-i.invariant c.loop-i-test.true c.in_ok-at.ensures
 
 pub returns : goal.returns
 returns c = rest_done (gate_at c.args.bytes.now) c.args.count c.args.first c.loop-i.i (c.loop-i.builder, c.loop-i.at) _ c.loop-i.invariant (omega arith)

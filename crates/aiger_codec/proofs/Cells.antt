@@ -13,9 +13,9 @@ use Rattle.aig_graph.proofs.Definitions.{within, variable_once, distinct}
 use Rattle.aiger_codec.specs.declared.section.Section.{Section}
 use Rattle.aiger_codec.specs.declared.section.Section.TheVariants.{Inputs, Latches, Outputs, Gates}
 use Rattle.aiger_codec.specs.Sections.{nothing_given}
-use Rattle.aiger_text.specs.Room.{HasRoom}
-use Rattle.aiger_text.specs.Grammar.{Item, MayBeGiven}
-use Rattle.aiger_text.proofs.Items.{with_item, with_items, IsFree, MayAdd, MayAll}
+use Rattle.aiger_codec.specs.Room.{HasRoom}
+use Rattle.aiger_codec.specs.SectionGrammar.{Item, MayBeGiven}
+use Rattle.aiger_codec.proofs.Items.{with_item, with_items, IsFree, MayAdd, MayAll}
 
 -- some array keeps what a builder keeps of these items
 pub record HasCells (g : Netlist) : Type 0 where

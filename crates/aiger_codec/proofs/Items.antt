@@ -11,9 +11,9 @@ use Rattle.aig_graph.specs.Given.{is_defined, bad_var, bad_literal, reset_of, wi
 use Rattle.aiger_codec.specs.declared.section.Section.{Section}
 use Rattle.aiger_codec.specs.declared.section.Section.TheVariants.{Inputs, Latches, Outputs, Gates}
 use Rattle.aiger_codec.specs.Sections.{added}
-use Rattle.aiger_text.specs.Grammar.{Item, IsLine}
-use Rattle.aiger_text.proofs.Room.{refused, given_is, latch_is}
-use Rattle.aiger_text.proofs.Lines.{added_all, added_first}
+use Rattle.aiger_codec.specs.SectionGrammar.{Item, IsLine}
+use Rattle.aiger_codec.proofs.Room.{refused, given_is, latch_is}
+use Rattle.aiger_codec.proofs.Lines.{added_all, added_first}
 
 abbrev pub with_item : (s : Section) → Netlist → Item s → Netlist
 with_item Inputs g v = record g { inputs = g.inputs ++ v ∷ [] }

@@ -1,8 +1,8 @@
 use Rattle.std.proofs.Common.{◌-◌}
 use Rattle.aiger_codec.specs.Sections.{items_at}
-use Rattle.aiger_text.specs.Room.{HasRoom}
-use Rattle.aiger_text.proofs.Loops.{Rest}
-use Rattle.aiger_text.proofs.section.read_items.Given as goal
+use Rattle.aiger_codec.specs.Room.{HasRoom}
+use Rattle.aiger_codec.proofs.Loops.{Rest}
+use Rattle.aiger_codec.proofs.section.read_items.Given as goal
 
 abbrev pub invariant-loop : goal.invariant-loop
 invariant-loop l = record {

@@ -10,7 +10,7 @@ use Rattle.aiger_codec.specs.declared.fault.NetFault.{NetFault}
 use Rattle.aiger_codec.specs.declared.section.Section.{Section}
 use Rattle.aiger_codec.specs.declared.section.Section.TheVariants.{Inputs, Latches, Outputs, Gates}
 use Rattle.aiger_codec.specs.Sections.{◌>>=◌, least, most, added, placed, item_at, items_at}
-use Rattle.aiger_text.specs.Room.{HasRoom}
+use Rattle.aiger_codec.specs.Room.{HasRoom}
 
 -- ---- what an answer that is no refusal says
 

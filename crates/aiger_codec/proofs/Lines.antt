@@ -10,8 +10,8 @@ use Rattle.aig_graph.specs.declared.fault.BuildFault.{BuildFault}
 use Rattle.circ_model.specs.Netlist.{Netlist}
 use Rattle.aiger_codec.specs.declared.section.Section.{Section}
 use Rattle.aiger_codec.specs.Sections.{least, most, added, placed, item_at, items_at}
-use Rattle.aiger_text.specs.Grammar.{SpellsLines}
-use Rattle.aiger_text.proofs.Room.{bind_is}
+use Rattle.aiger_codec.specs.SectionGrammar.{SpellsLines}
+use Rattle.aiger_codec.proofs.Room.{bind_is}
 
 -- what lines add, one after the other
 abbrev pub and_then : (Netlist → Result Netlist BuildFault) → Result Netlist BuildFault → Result Netlist BuildFault
