@@ -93,14 +93,6 @@ impl Graph {
         self.nodes.len() as u32
     }
 
-    /// Node n. Its operands are those that it was made with, whatever was merged since.
-    pub fn node(&self, n: u32) -> Node
-        requires { n < length self.now }
-        ensures { result ≡ node_at self.now n }
-    {
-        self.nodes[n as usize]
-    }
-
     /// The canonical literal of a literal: it doesn't stand after it, and has its value under each valuation.
     pub fn canonical(&self, lit: Lit) -> Lit
         requires within { lit / 2 < length self.now }

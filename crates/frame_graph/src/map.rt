@@ -10,7 +10,7 @@ ghost use Rattle.and_graph.specs.declared.node.Node.{Node};
 ghost use Rattle.and_graph.specs.Graphs.{AreEqual, GrowsTo, IsGraph, IsLeaf, node_at};
 ghost use Rattle.frame_graph.specs.Decoded.{IsInputOf, StandsFor};
 ghost use Rattle.frame_graph.specs.Frames.{frame_of};
-ghost use Rattle.frame_graph.specs.Inductions.{BasePasses, HoldsInFrame, StepPasses};
+ghost use Rattle.frame_graph.specs.Inductions.{HoldsInFrame, StepPasses};
 ghost use Rattle.frame_graph.specs.Leaves.{AreLeaves, leaf_count};
 ghost use Rattle.frame_graph.specs.Maps.{AreWithin, IsResetMap, IsStepMap, Shows, induction_of};
 ghost use Rattle.frame_graph.specs.Owed.{AreEqualWhere, IsOwed};
@@ -323,38 +323,6 @@ impl<'p> FrameMap<'p> {
     {
         let begin = self.depth as usize * self.product.len() as usize;
         needed_literals(classes, self.literals.as_slice(), begin, member)
-    }
-
-    /// Whether a place has its class's least place's literal in each frame from reset: then the pair holds there on each run, and
-    /// no solver need be asked.
-    pub fn base_passes(&self, graph: &Graph, classes: &Classes, member: u32) -> bool
-        requires place { member < places_of self.now.leaves.pair }
-        requires classes { length classes.now.least ≡ places_of self.now.leaves.pair }
-        requires map { IsResetMap graph.now self.now }
-        ensures { IsTrue result → BasePasses (induction_of self.now classes.now) member }
-    {
-        let _nodes = graph.len();
-        for frame in 0..self.depth {
-            let (least, other) = self.base_pair(classes, frame, member);
-            if !graph.same(least, other) {
-                return false;
-            }
-        }
-        true
-    }
-
-    /// Whether a place has its class's least place's literal in the last frame of the step: then the pair holds there on each
-    /// path of the step, and no solver need be asked.
-    pub fn step_passes(&self, graph: &Graph, classes: &Classes, member: u32) -> bool
-        requires place { member < places_of self.now.leaves.pair }
-        requires classes { length classes.now.least ≡ places_of self.now.leaves.pair }
-        requires reached { self.now.depth * places_of self.now.leaves.pair + member < length self.now.literals }
-        requires map { IsStepMap graph.now self.now classes.now }
-        ensures { IsTrue result → StepPasses (induction_of self.now classes.now) member }
-    {
-        let _nodes = graph.len();
-        let (least, other) = self.step_pair(classes, member);
-        graph.same(least, other)
     }
 
     /// Takes in that a pair holds on each path of the step: in the last frame the place has its class's least place's literal
