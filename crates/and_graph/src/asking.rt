@@ -16,7 +16,7 @@ use crate::halt::Halt;
 use crate::lemmas::Lemmas;
 use crate::node::Node;
 use crate::pattern::{Pattern, pattern_of};
-use crate::posed::{Found, Posed};
+use crate::posed::{Differing, Posed};
 use circ_model::Lit;
 use sat_core::Answer;
 use std::alloc::{AllocError, Global};
@@ -38,7 +38,7 @@ pub struct Asker {
     // what is put aside, of the cone; and its answer, once there is one
     posed: Option<Posed>,
     answer: Option<Answer>,
-    found: Option<Found>,
+    found: Option<Differing>,
 }
 
 impl Model for Asker {
@@ -174,7 +174,7 @@ impl Asker {
         }
         let found = cone.take(alloc, nodes, lemmas, Posed { x, y, given }, &answer)?;
         if let Some(pattern) = &found {
-            self.found = Some(Found::of(alloc, x, y, pattern)?);
+            self.found = Some(Differing::of(alloc, x, y, pattern)?);
         }
         Ok(found)
     }
@@ -273,7 +273,7 @@ impl Asker {
         match &answer {
             Answer::Sat(row) => {
                 let pattern = pattern_of(alloc, nodes, &cone.members, row)?;
-                self.found = Some(Found::of(alloc, x, y, &pattern)?);
+                self.found = Some(Differing::of(alloc, x, y, &pattern)?);
                 Ok(None)
             }
             Answer::Unsat(log) => {

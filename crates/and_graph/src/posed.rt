@@ -25,18 +25,18 @@ pub(crate) struct Posed {
 
 /// A pattern under which two literals differ: a hint.
 #[derive(Drop)]
-pub(crate) struct Found {
+pub(crate) struct Differing {
     pub x: Lit,
     pub y: Lit,
     pub leaves: Vec<LeafValue>,
 }
 
-impl Found {
+impl Differing {
     /// A pattern, kept for later.
-    pub fn of(alloc: Global, x: Lit, y: Lit, pattern: &Pattern) -> Result<Found, AllocError> {
+    pub fn of(alloc: Global, x: Lit, y: Lit, pattern: &Pattern) -> Result<Differing, AllocError> {
         let mut leaves = Vec::new(alloc);
         leaves.extend_from_slice(pattern.leaves.as_slice())?;
-        Ok(Found { x, y, leaves })
+        Ok(Differing { x, y, leaves })
     }
 
     /// The pattern, where it is of these literals.

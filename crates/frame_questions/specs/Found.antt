@@ -5,8 +5,8 @@ use Rattle.cnf_store.specs.Clauses.{Formula}
 use Rattle.sat_log.specs.Derivations.{IsAccepted}
 use Rattle.frame_unroll.specs.declared.question.Question.{Question}
 use Rattle.frame_questions.specs.declared.found.Seen.{Seen}
-use Rattle.frame_questions.specs.declared.found.Found.{Found}
-use Rattle.frame_questions.specs.declared.found.Found.TheVariants.{None as NoPath, Path as OnPath}
+use Rattle.frame_questions.specs.declared.found.Separation.{Separation}
+use Rattle.frame_questions.specs.declared.found.Separation.TheVariants.{None as NoPath, Path as OnPath}
 use Rattle.frame_unroll.specs.Frames.{values}
 use Rattle.frame_unroll.specs.Unrolled.{Unrolling, IsSought, NoneSought, asking, formula_of}
 
@@ -19,7 +19,7 @@ pub record IsSeen (u : Unrolling) (q : Question) (s : Seen) : Type 0 where
   pub apart : value_in s.bits q.a ≡ not (value_in s.bits q.b)
   pub before : (t : ℕ) → q.first ≤ t → t < s.frame → value_in (row_at u.pair s.path t) q.a ≡ value_in (row_at u.pair s.path t) q.b
 
-abbrev pub IsFound : Unrolling → Question → Found → Type 0
+abbrev pub IsFound : Unrolling → Question → Separation → Type 0
 IsFound u q (NoPath log) = NoneSought u q × IsAccepted (formula_of (asking u q)) log
 IsFound u q (OnPath s) = IsSeen u q s
 

@@ -29,10 +29,10 @@ pub struct Seen {
     pub bits: BitRow,
 }
 
-/// What a question comes to.
+/// Whether a path that is sought has two literals apart.
 #[derive(Drop)]
-pub enum Found {
-    /// No path that is sought has them apart: the log derives the empty clause.
+pub enum Separation {
+    /// None has: the log derives the empty clause.
     None(Log),
     /// This one has.
     Path(Seen),
@@ -111,7 +111,7 @@ impl<'p> Prepared<'p> {
         b: Lit,
         first: u32,
         last: u32,
-    ) -> Result<Found, AllocError>
+    ) -> Result<Separation, AllocError>
         requires left { IsLiteral self.now.pair a }
         requires right { IsLiteral self.now.pair b }
         requires order { first ≤ last }
@@ -129,8 +129,8 @@ impl<'p> Prepared<'p> {
         let answer = self.ready.solve_in(alloc, work, &own);
         drop(own);
         match answer? {
-            Answer::Unsat(log) => Ok(Found::None(log)),
-            Answer::Sat(row) => Ok(Found::Path(self.seen_in(alloc, &row, question)?)),
+            Answer::Unsat(log) => Ok(Separation::None(log)),
+            Answer::Sat(row) => Ok(Separation::Path(self.seen_in(alloc, &row, question)?)),
         }
     }
 
@@ -142,7 +142,7 @@ impl<'p> Prepared<'p> {
         b: Lit,
         first: u32,
         last: u32,
-    ) -> Result<Found, AllocError>
+    ) -> Result<Separation, AllocError>
         requires left { IsLiteral self.now.pair a }
         requires right { IsLiteral self.now.pair b }
         requires order { first ≤ last }

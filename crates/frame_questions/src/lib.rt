@@ -7,5 +7,5 @@
 mod assuming;
 mod found;
 
-pub use found::{Found, Prepared, Seen};
+pub use found::{Prepared, Seen, Separation};
 pub use sat_core::Workspace;

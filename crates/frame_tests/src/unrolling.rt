@@ -11,7 +11,7 @@ use bit_rows::BitRow;
 use circ_model::Lit;
 use class_partition::Classes;
 use cnf_store::Cnf;
-use frame_questions::{Found, Prepared, Workspace};
+use frame_questions::{Prepared, Separation, Workspace};
 use frame_unroll::Unrolled;
 use product_machine::{Path, Product};
 use std::alloc::{AllocError, Global};
@@ -156,10 +156,11 @@ fn worked(alloc: Global, product: &Product) -> Result<bool, AllocError> {
 type Row = (Lit, Lit, u32, u32, Option<(u32, u32)>);
 
 // Whether an answer is what a row says.
-fn is_as_told(found: &Found, seen: Option<(u32, u32)>) -> bool {
+fn is_as_told(found: &Separation, seen: Option<(u32, u32)>) -> bool {
     match (found, seen) {
-        (Found::None(log), None) => log.len() > 0,
-        (Found::Path(at), Some((frame, bits))) => at.frame == frame && has_bits(&at.bits, bits),
+        (Separation::None(log), None) => log.len() > 0,
+        (Separation::Path(at), Some((frame, bits))) => at.frame == frame
+            && has_bits(&at.bits, bits),
         _ => false,
     }
 }

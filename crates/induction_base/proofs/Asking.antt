@@ -6,8 +6,8 @@ use Rattle.circ_model.specs.Correspondence.{HoldsIn}
 use Rattle.circ_model.proofs.Paths.{IsWindow, cut_is_run, row_of_cut, window, window_is, window_of_run}
 use Rattle.frame_unroll.specs.Unrolled.{Unrolling, Differs, IsSought, from_reset, NoneSought, asks, asking}
 use Rattle.frame_questions.specs.Found.{IsSeen, IsFound}
-use Rattle.frame_questions.specs.declared.found.Found.{Found}
-use Rattle.frame_questions.specs.declared.found.Found.TheVariants as found
+use Rattle.frame_questions.specs.declared.found.Separation.{Separation}
+use Rattle.frame_questions.specs.declared.found.Separation.TheVariants as found
 use Rattle.frame_questions.specs.declared.found.Seen.{Seen}
 use Rattle.induction_base.specs.declared.base.Base.{Base}
 use Rattle.induction_base.specs.declared.base.Base.TheVariants.{Holds, Breaks}
@@ -61,11 +61,11 @@ breaks_in pair k a b seen some is = record {
 }
 
 -- what an answer over all frames is of the base
-abbrev pub base_of : Found → Base
+abbrev pub base_of : Separation → Base
 base_of (found.None log) = Holds log
 base_of (found.Path seen) = Breaks seen.path seen.frame
 
-pub is_base : (pair : Pair) (u : Unrolling) (k a b : ℕ) (f : Found) → u ≡ from_reset pair k → 0 < k → IsFound u (asks a b 0 (k - 1)) f → IsBase pair k a b (base_of f)
+pub is_base : (pair : Pair) (u : Unrolling) (k a b : ℕ) (f : Separation) → u ≡ from_reset pair k → 0 < k → IsFound u (asks a b 0 (k - 1)) f → IsBase pair k a b (base_of f)
 is_base pair u k a b (found.None log) e some is = let h = subst (λ (v : Unrolling). IsFound v (asks a b 0 (k - 1)) (found.None log)) e is in (hold_in_runs pair k a b some h.0, h.1)
 is_base pair u k a b (found.Path seen) e some is = breaks_in pair k a b seen some (subst (λ (v : Unrolling). IsFound v (asks a b 0 (k - 1)) (found.Path seen)) e is)
 

@@ -4,7 +4,7 @@ ghost use Rattle.circ_model.specs.Correspondence.{IsLiteral};
 ghost use Rattle.induction_base.specs.Base.{IsBase};
 
 use circ_model::Lit;
-use frame_questions::{Found, Prepared};
+use frame_questions::{Prepared, Separation};
 use product_machine::{Path, Product};
 use sat_log::Log;
 use std::alloc::{AllocError, Global};
@@ -35,7 +35,7 @@ pub fn base_holds(
 {
     let frames = Prepared::reset_frames(alloc, product, k)?;
     match frames.find(alloc, a, b, 0, k - 1)? {
-        Found::None(log) => Ok(Base::Holds(log)),
-        Found::Path(seen) => Ok(Base::Breaks(seen.path, seen.frame)),
+        Separation::None(log) => Ok(Base::Holds(log)),
+        Separation::Path(seen) => Ok(Base::Breaks(seen.path, seen.frame)),
     }
 }

@@ -6,7 +6,7 @@ ghost use Rattle.induction_base.specs.Search.{AreOfRuns, IsApartOrNone};
 
 use crate::rows::first_rows;
 use circ_model::Lit;
-use frame_questions::{Found, Prepared, Workspace};
+use frame_questions::{Prepared, Separation, Workspace};
 use product_machine::{Path, Product};
 use std::alloc::{AllocError, Global};
 use std::marker::Model;
@@ -87,8 +87,8 @@ fn ask(
     ensures { IfOk result (IsApartOrNone frames.now.pair t a b) }
 {
     match frames.find_in(alloc, work, a, b, t, t)? {
-        Found::None(_) => Ok(None),
-        Found::Path(seen) => {
+        Separation::None(_) => Ok(None),
+        Separation::Path(seen) => {
             let rows = first_rows(alloc, &seen.path.inputs, t as u64 + 1)?;
             Ok(Some(Path {
                 start: seen.path.start,

@@ -122,9 +122,12 @@ fn refine_named<
     })
 }
 
-// The classes of an earlier k, where they are known, and how many workers a run has.
+// What a run is of: the pair, over how many frames the induction goes, the classes of an earlier k where they are known, and how
+// many workers it has.
 #[derive(Drop)]
 struct Start<'a, 'p> {
+    product: &'p Product,
+    k: u32,
     known: Option<&'a Known<'p>>,
     workers: u32,
 }
@@ -133,22 +136,25 @@ struct Start<'a, 'p> {
 fn refine_with<'p, R: Threads + Wait + Sync, G: Gate>(
     rt: &R,
     alloc: Global,
-    product: &'p Product,
-    k: u32,
     start: Start<'_, 'p>,
     memory: &mut Option<ProverMemory<'p>>,
     gate: &G,
 ) -> Result<Refined<'p>, AllocError>
-    requires some { 0 < k }
-    requires few { k ≤ 16 }
+    requires some { 0 < start.k }
+    requires few { start.k ≤ 16 }
     requires workers { (0 < start.workers) × (start.workers ≤ 64) }
-    requires earlier { IfSome start.known (λ n. IsKnownFor product.now k n.now) }
-    requires memory { IfSome memory.old (IsMemoryFor product.now k) }
-    ensures refined { IfOk result (λ r. IsRefined product.entry.now k start.entry.workers r.version r.journal.entries) }
+    requires earlier { IfSome start.known (λ n. IsKnownFor start.product.now start.k n.now) }
+    requires memory { IfSome memory.old (IsMemoryFor start.product.now start.k) }
+    ensures refined { IfOk result (λ r. IsRefined start.entry.product.now start.entry.k start.entry.workers r.version r.journal.entries) }
     ensures reports { IfOk result (λ r. AreReports start.entry.workers r.journal.entries r.reports.items) }
-    ensures memory { IfSome memory.new (IsMemoryFor product.entry.now k) }
+    ensures memory { IfSome memory.new (IsMemoryFor start.entry.product.now start.entry.k) }
 {
-    let Start { known, workers } = start;
+    let Start {
+        product,
+        k,
+        known,
+        workers,
+    } = start;
     let first = Version::opening(alloc, product, k)?;
     let versions = Versions::new(alloc)?;
     refine_named::<Brand, Brand, Brand, R, G>(
@@ -221,10 +227,12 @@ pub fn refine_known<'p, R: Threads + Wait + Sync, G: Gate>(
 {
     let known = earlier.known.take();
     let start = Start {
+        product,
+        k,
         known: known.as_ref(),
         workers,
     };
-    let refined = refine_with(rt, alloc, product, k, start, &mut earlier.memory, gate);
+    let refined = refine_with(rt, alloc, start, &mut earlier.memory, gate);
     earlier.known = known;
     refined
 }

@@ -15,7 +15,7 @@ use std::marker::Model;
 use std::sync::Wait;
 use std::sync::ledger::Ledger;
 use verdict_stamp::{Halt, Proof};
-use work_desk::{Asked, Caller, Found, Seat};
+use work_desk::{Asked, Caller, Seat, Separated};
 
 // So many vectors a worker holds at most. Each splits the classes for all, so one that holds many lets others prove pairs in vain.
 const MOST: u64 = 400;
@@ -30,7 +30,7 @@ fn most_of(places: u32) -> usize {
 pub(crate) struct Worker<'r, 'v, 'p, L: Run, E: Ledger, O: Ledger, G: Gate> {
     desk: Caller<'r, 'v, 'p, L, E, O, G>,
     place: Place<'r, 'v, 'p, L>,
-    pocket: Vec<Found<'p, L>>,
+    pocket: Vec<Separated<'p, L>>,
     most: usize,
 }
 
@@ -171,7 +171,7 @@ impl<'r, 'v, 'p, L: Run, E: Ledger, O: Ledger, G: Gate> Worker<'r, 'v, 'p, L, E,
                 self.desk.keep(rt, offer, &verdict);
                 Ok(())
             }
-            Ok(Proof::Splits(vector)) => self.hold(rt, Found::new(offer, vector)),
+            Ok(Proof::Splits(vector)) => self.hold(rt, Separated::new(offer, vector)),
             Err(error) => {
                 self.desk.give_back(rt, offer);
                 Err(error)
@@ -180,7 +180,7 @@ impl<'r, 'v, 'p, L: Run, E: Ledger, O: Ledger, G: Gate> Worker<'r, 'v, 'p, L, E,
     }
 
     // Puts an offer into the pocket with a vector. Where memory ran out it goes back.
-    fn hold(&mut self, rt: &impl Wait, found: Found<'p, L>) -> Result<(), AllocError>
+    fn hold(&mut self, rt: &impl Wait, found: Separated<'p, L>) -> Result<(), AllocError>
         requires party { found.party ≡ self.old.party }
         requires hand { IsAtWork self.old.party 1 self.old }
         ensures { IsAtWork self.old.party 0 self.new }

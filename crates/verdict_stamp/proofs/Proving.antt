@@ -8,8 +8,8 @@ use Rattle.class_partition.specs.Classes.{Classes, HoldIn, IsNeeded, needed}
 use Rattle.sat_log.specs.Derivations.{Line}
 use Rattle.class_partition.proofs.Partition.{may_split_after}
 use Rattle.frame_questions.specs.declared.found.Seen.{Seen}
-use Rattle.frame_questions.specs.declared.found.Found.{Found}
-use Rattle.frame_questions.specs.declared.found.Found.TheVariants as found
+use Rattle.frame_questions.specs.declared.found.Separation.{Separation}
+use Rattle.frame_questions.specs.declared.found.Separation.TheVariants as found
 use Rattle.frame_questions.specs.Found.{IsFound, IsSeen}
 use Rattle.frame_unroll.specs.Unrolled.{NoneSought}
 use Rattle.frame_unroll.proofs.Members.{members_to, members_from}
@@ -90,10 +90,10 @@ step_row v m s is seen =
     }
 
 -- from what was found to what is answered
-pub base_found : (v : Standing) (m : ℕ) (f : Found) (s : Seen) → IsVersion v → f ≡ found.Path s → IsFound (base_of v) (base_question v m) f → IsSplitOf v m s.bits
+pub base_found : (v : Standing) (m : ℕ) (f : Separation) (s : Seen) → IsVersion v → f ≡ found.Path s → IsFound (base_of v) (base_question v m) f → IsSplitOf v m s.bits
 base_found v m f s is e h = base_row v m s is (subst (IsFound (base_of v) (base_question v m)) e h)
 
-pub step_found : (v : Standing) (m : ℕ) (f : Found) (s : Seen) → IsVersion v → f ≡ found.Path s → IsFound (step_of v) (step_question v m) f → IsSplitOf v m s.bits
+pub step_found : (v : Standing) (m : ℕ) (f : Separation) (s : Seen) → IsVersion v → f ≡ found.Path s → IsFound (step_of v) (step_question v m) f → IsSplitOf v m s.bits
 step_found v m f s is e h = step_row v m s is (subst (IsFound (step_of v) (step_question v m)) e h)
 
 pub splits : (v w : Standing) (m : ℕ) (x : Split) (bits : List Bool) → v ≡ w → x ≡ record { pair = v.pair; k = v.k; bits = bits } → IsSplitOf w m bits → IsProof w m (Splits x)
@@ -107,10 +107,10 @@ pub passed : (v : Standing) (m : ℕ) → BasePasses (induction_of v) m → Step
 passed v m base step need = record { is_needed = need; passes = both_halves (induction_of v) m base step; known = λ j e. absurd (not_known j e) }
 
 -- nothing found: each half holds
-pub base_none : (v : Standing) (m : ℕ) (f : Found) (log : List Line) → f ≡ found.None log → IsFound (base_of v) (base_question v m) f → BasePasses (induction_of v) m
+pub base_none : (v : Standing) (m : ℕ) (f : Separation) (log : List Line) → f ≡ found.None log → IsFound (base_of v) (base_question v m) f → BasePasses (induction_of v) m
 base_none v m f log e h = let none = subst (IsFound (base_of v) (base_question v m)) e h in λ t lt run is. base_passes v m none.0 run is.is_run is.rows t lt
 
-pub step_none : (v : Standing) (m : ℕ) (f : Found) (log : List Line) → f ≡ found.None log → IsFound (step_of v) (step_question v m) f → StepPasses (induction_of v) m
+pub step_none : (v : Standing) (m : ℕ) (f : Separation) (log : List Line) → f ≡ found.None log → IsFound (step_of v) (step_question v m) f → StepPasses (induction_of v) m
 step_none v m f log e h = let none = subst (IsFound (step_of v) (step_question v m)) e h in λ path is. step_passes v m none.0 path is.is_path is.rows is.hold
 
 -- the accessors' product and k are the version's

@@ -18,7 +18,7 @@ use crate::verdict::Verdict;
 use crate::version::Version;
 use bit_rows::BitRow;
 use class_partition::Needed;
-use frame_questions::{Found, Prepared, Workspace};
+use frame_questions::{Prepared, Separation, Workspace};
 use pair_sweep::{Asker, FreeBit, Halt, Sweep, SweepMemory};
 use product_machine::Product;
 use split_rows::SplitRows;
@@ -140,7 +140,7 @@ fn ask_base<'p>(
     work: &mut Workspace,
     version: &Version<'p>,
     pair: Needed,
-) -> Result<Found, AllocError>
+) -> Result<Separation, AllocError>
     requires version { IsVersion version.now }
     requires place { pair.member < places_of version.now.pair }
     requires rep { pair.rep ≡ least_of version.now.classes pair.member }
@@ -167,7 +167,7 @@ fn ask_step<'p>(
     work: &mut Workspace,
     version: &Version<'p>,
     pair: Needed,
-) -> Result<Found, AllocError>
+) -> Result<Separation, AllocError>
     requires version { IsVersion version.now }
     requires place { pair.member < places_of version.now.pair }
     requires rep { pair.rep ≡ least_of version.now.classes pair.member }
@@ -277,8 +277,8 @@ impl<'v, 'p> Prover<'v, 'p> {
         ensures some { IfOk result (λ row. IfSome row (IsSplitOf self.old pair.member)) }
     {
         match ask_base(alloc, &mut self.base, &mut self.resets, self.current, pair)? {
-            Found::Path(seen) => Ok(Some(seen.bits)),
-            Found::None(_) => Ok(None),
+            Separation::Path(seen) => Ok(Some(seen.bits)),
+            Separation::None(_) => Ok(None),
         }
     }
 
@@ -291,8 +291,8 @@ impl<'v, 'p> Prover<'v, 'p> {
         ensures some { IfOk result (λ row. IfSome row (IsSplitOf self.old pair.member)) }
     {
         match ask_step(alloc, &mut self.step, &mut self.steps, self.current, pair)? {
-            Found::Path(seen) => Ok(Some(seen.bits)),
-            Found::None(_) => {
+            Separation::Path(seen) => Ok(Some(seen.bits)),
+            Separation::None(_) => {
                 self.sweep.take_passed(pair.member)?;
                 Ok(None)
             }

@@ -5,8 +5,8 @@ ghost use Rattle.work_desk.specs.Seats.{OwesLess};
 ghost use Rattle.work_desk.specs.Desks.{IsAskedOf};
 
 use crate::desk::{Asked, Desk};
-use crate::found::Found;
 use crate::seat::Seat;
+use crate::separated::Separated;
 use bell::Bell;
 use refine_board::{Offer, Run};
 use sec_base::Gate;
@@ -99,7 +99,7 @@ impl<'r, 'v, 'p, L: Run, E: Ledger, O: Ledger, G: Gate> Caller<'r, 'v, 'p, L, E,
     pub fn ask(
         &mut self,
         rt: &impl Wait,
-        held: Option<&Found<'p, L>>,
+        held: Option<&Separated<'p, L>>,
         has_turn: bool,
     ) -> Asked<'p, L>
         requires working { self.old.ended ≡ 0 }
@@ -179,12 +179,12 @@ impl<'r, 'v, 'p, L: Run, E: Ledger, O: Ledger, G: Gate> Caller<'r, 'v, 'p, L, E,
     }
 
     /// Answers a vector that separates an offered pair.
-    pub fn split(&mut self, rt: &impl Wait, found: Found<'p, L>)
+    pub fn split(&mut self, rt: &impl Wait, found: Separated<'p, L>)
         requires party { found.party ≡ self.old.party }
         requires owed { 0 < self.old.owed }
         ensures { OwesLess self.old self.new }
     {
-        let Found { offer, vector } = found;
+        let Separated { offer, vector } = found;
         self.gate.hold();
         self.desk
             .lock(rt)

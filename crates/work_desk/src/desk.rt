@@ -7,8 +7,8 @@ ghost use Rattle.refine_board.specs.Running.{IsAbout, IsOf};
 ghost use Rattle.work_desk.specs.Seats.{HaveEnded, OwesLess, no_totals};
 ghost use Rattle.work_desk.specs.Desks.{IsAskedOf, IsOutcome, held};
 
-use crate::found::Found;
 use crate::seat::{Ledgers, Seat};
+use crate::separated::Separated;
 use refine_board::{Board, Journal, Offer, Run, Take};
 use std::marker::Model;
 use std::sync::Wait;
@@ -52,7 +52,7 @@ impl<'v, 'p, L: Run, E: Ledger, O: Ledger> Model for Desk<'v, 'p, L, E, O> {
 }
 
 // Whether the board has another version than the one of a pair that was found apart.
-fn has_moved<'p, L: Run>(board: &Board<'_, 'p, L>, held: Option<&Found<'p, L>>) -> bool {
+fn has_moved<'p, L: Run>(board: &Board<'_, 'p, L>, held: Option<&Separated<'p, L>>) -> bool {
     match held {
         Some(found) => !board.is_stamped(found.offer.stamp()),
         None => false,
@@ -101,7 +101,7 @@ impl<'v, 'p, L: Run, E: Ledger, O: Ledger> Desk<'v, 'p, L, E, O> {
         &mut self,
         rt: &impl Wait,
         seat: &mut Seat<E, O>,
-        held: Option<&Found<'p, L>>,
+        held: Option<&Separated<'p, L>>,
         has_turn: bool,
     ) -> Asked<'p, L>
         requires party { seat.old.party < L.workers }

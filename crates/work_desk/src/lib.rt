@@ -5,10 +5,10 @@
 
 mod caller;
 mod desk;
-mod found;
 mod seat;
+mod separated;
 
 pub use caller::Caller;
 pub use desk::{Asked, Desk};
-pub use found::Found;
 pub use seat::{Ledgers, Seat, seats};
+pub use separated::Separated;

@@ -8,12 +8,12 @@ use verdict_stamp::Vector;
 
 /// An offer, and a vector that separates its pair.
 #[derive(Drop)]
-pub struct Found<'p, L: Run> {
+pub struct Separated<'p, L: Run> {
     pub(crate) offer: Offer<'p, L>,
     pub(crate) vector: Vector<'p>,
 }
 
-impl<'p, L: Run> Model for Found<'p, L> {
+impl<'p, L: Run> Model for Separated<'p, L> {
     ghost use Rattle.refine_board.specs.Running.{Owed, IsOf};
 
     ghost Value = { Owed };
@@ -23,20 +23,20 @@ impl<'p, L: Run> Model for Found<'p, L> {
     ghost invariant = { λ f. IsOf L.pair L.k f.vector };
 }
 
-impl<'p, L: Run> Found<'p, L> {
+impl<'p, L: Run> Separated<'p, L> {
     /// An offered pair, and a vector that separates it.
-    pub fn new(offer: Offer<'p, L>, vector: Vector<'p>) -> Found<'p, L>
+    pub fn new(offer: Offer<'p, L>, vector: Vector<'p>) -> Separated<'p, L>
         requires { IsOf L.pair L.k vector }
         ensures { result ≡ offer.entry }
     {
-        Found { offer, vector }
+        Separated { offer, vector }
     }
 
     /// The offer, without the vector.
     pub fn into_offer(self) -> Offer<'p, L>
         ensures { result ≡ self.entry }
     {
-        let Found { offer, .. } = self;
+        let Separated { offer, .. } = self;
         offer
     }
 }
