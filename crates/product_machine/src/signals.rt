@@ -44,7 +44,12 @@ impl Product {
             Signal::Input(i) => { if i < self.inputs() { Some(1 + i) } else { None } }
             Signal::Left(v) => own_place(self.left(), self.left_places(), 0, v),
             Signal::Right(v) => {
-                own_place(self.right(), self.right_places(), self.left().own_count(), v)
+                own_place(
+                    self.right(),
+                    self.right_places(),
+                    self.left().own_count(),
+                    v,
+                )
             }
         }
     }

@@ -14,8 +14,8 @@ use crate::reading::Cursor;
 use crate::reading::parts::{Asked, Claim, check_member};
 use class_partition::Classes;
 use frame_unroll::Unrolled;
-use product_machine::Product;
 use plain_text::next_piece;
+use product_machine::Product;
 use std::alloc::{AllocError, Global};
 
 /// A fault as an answer.

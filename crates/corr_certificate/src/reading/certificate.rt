@@ -11,8 +11,8 @@ use crate::fault::{CertKind, Checked};
 use crate::reading::body::{no, read_body};
 use crate::reading::class_lines::Joining;
 use crate::reading::head::read_head;
-use product_machine::Product;
 use plain_text::next_piece;
+use product_machine::Product;
 use std::alloc::{AllocError, Global};
 
 // Reads the class lines, of which the first is line 2, and what follows them.

@@ -14,8 +14,8 @@ use crate::reading::Cursor;
 use crate::reading::names::{first_byte, named, strip, tail};
 use bit_rows::BitRow;
 use class_partition::Classes;
-use product_machine::Product;
 use plain_text::next_piece;
+use product_machine::Product;
 use std::alloc::{AllocError, Global};
 use std::marker::Model;
 

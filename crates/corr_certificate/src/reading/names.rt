@@ -3,8 +3,8 @@ ghost use Rattle.std.specs.Prelude.{◌≡◌, ◌<◌, drop, slice_index, IfSom
 ghost use Rattle.circ_model.specs.Meaning.{places_of};
 ghost use Rattle.corr_certificate.specs.Names.{stripped, number_of, signal_of, named};
 
-use plain_text::read_number;
 use circ_model::Signal;
+use plain_text::read_number;
 use product_machine::Product;
 
 /// What follows a prefix of a text.

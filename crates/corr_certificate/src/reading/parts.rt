@@ -15,8 +15,8 @@ use class_partition::Classes;
 use cnf_store::Cnf;
 use frame_unroll::Unrolled;
 use log_check::first_bad;
-use product_machine::Product;
 use plain_text::next_piece;
+use product_machine::Product;
 use sat_log::{Log, Stop, read_part};
 use std::alloc::{AllocError, Global};
 
