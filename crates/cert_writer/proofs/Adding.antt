@@ -1,32 +1,36 @@
 -- The parts of members, added one after another.
 use Rattle.std.specs.Prelude.{OnOk, Result, Ok, Err}
-use Rattle.std.proofs.Common.{◌≡◌, ◌∙◌, ◌<◌, ◌≤◌, ◌-◌, ◌+◌, ℕ, suc, Bool, List, [], ◌∷◌, ◌++◌, codes, sym, subst, ap, arith, refl, append_assoc}
+use Rattle.std.proofs.Common.{◌≡◌, ◌∙◌, ◌<◌, ◌≤◌, ◌-◌, ◌+◌, ℕ, suc, Bool, List, [], ◌∷◌, ◌++◌, codes, length, sym, subst, ap, arith, refl, append_assoc}
 use Rattle.std.specs.List.{range_with_len}
 use Rattle.std.proofs.lemmas.Bool.{eq-eqb, ne_eqb}
 use Rattle.circ_model.specs.Meaning.{Pair, places_of}
 use Rattle.class_partition.specs.Classes.{Classes, least_of}
+use Rattle.cnf_store.specs.Clauses.{Formula}
+use Rattle.sat_log.specs.Derivations.{Line, IsAccepted}
 use Rattle.corr_certificate.specs.Parts.{Either, base_formula, step_formula}
-use Rattle.cert_writer.specs.Writing.{part_text, AddsPart, AddsMember, AddsMembers, AreMembers, IsMember}
+use Rattle.cert_writer.specs.Trimming.{IsTrimmed}
+use Rattle.cert_writer.specs.Writing.{part_text, AddsPart, AddsMember, AddsMembers, AreMembers, Derives, IsMember}
 
 -- line 1, in three pieces
 pub head_is : (t u v w a b d : List ℕ) → u ≡ t ++ a → v ≡ u ++ b → w ≡ v ++ d → w ≡ t ++ (a ++ (b ++ d))
 head_is t u v w a b d e f g = g ∙ ap (λ (l : List ℕ). l ++ d) (f ∙ ap (λ (l : List ℕ). l ++ b) e) ∙ append_assoc (t ++ a) b d ∙ append_assoc t a (b ++ d)
 
--- a member's two parts, one after the other
-two_parts : (pair : Pair) (k : ℕ) (classes : Classes) (p : ℕ) (before middle after : List ℕ) → AddsPart pair (codes "base ") p (base_formula pair k classes p) before middle → AddsPart pair (codes "step ") p (step_formula pair k classes p) middle after
-    → AddsMember pair k classes p before after
-two_parts pair k classes p before middle after b s = record {
-  base = b.log;
-  step = s.log;
-  base_derives = b.derives;
-  step_derives = s.derives;
-  is = s.is ∙ ap (λ (l : List ℕ). l ++ part_text pair (codes "step ") p s.log) b.is ∙ append_assoc before (part_text pair (codes "base ") p b.log) (part_text pair (codes "step ") p s.log);
-}
+-- a log that is accepted and trimmed, whose part is added
+derived : (pair : Pair) (keyword : List ℕ) (p : ℕ) (formula : Formula) (log : List Line) (before after : List ℕ) → IsAccepted formula log → IsTrimmed (length formula.clauses) log → AddsPart pair keyword p log before after → Derives formula log
+derived pair keyword p formula log before after accepted trimmed adds = record { accepted = accepted; trimmed = trimmed; lines = adds.lines; hints = adds.hints }
 
-pub both_parts : {A E : Type 0} (pair : Pair) (k : ℕ) (classes : Classes) (p : ℕ) (before middle after : List ℕ) (r : Result A E) → AddsPart pair (codes "base ") p (base_formula pair k classes p) before middle
-    → OnOk r (AddsPart pair (codes "step ") p (step_formula pair k classes p) middle after) → OnOk r (AddsMember pair k classes p before after)
-both_parts pair k classes p before middle after (Ok x) b s = two_parts pair k classes p before middle after b s
-both_parts pair k classes p before middle after (Err x) b s = s
+-- a member's two parts, one after the other
+pub both_parts : {A E : Type 0} (pair : Pair) (k : ℕ) (classes : Classes) (p : ℕ) (before middle after : List ℕ) (base step : List Line) (r : Result A E)
+    → IsAccepted (base_formula pair k classes p) base → IsTrimmed (length (base_formula pair k classes p).clauses) base → AddsPart pair (codes "base ") p base before middle
+    → IsAccepted (step_formula pair k classes p) step → IsTrimmed (length (step_formula pair k classes p).clauses) step → OnOk r (AddsPart pair (codes "step ") p step middle after) → OnOk r (AddsMember pair k classes p before after)
+both_parts pair k classes p before middle after base step (Ok x) ba bt b sa st s = record {
+  base = base;
+  step = step;
+  base_derives = derived pair (codes "base ") p (base_formula pair k classes p) base before middle ba bt b;
+  step_derives = derived pair (codes "step ") p (step_formula pair k classes p) step middle after sa st s;
+  is = s.is ∙ ap (λ (l : List ℕ). l ++ part_text pair (codes "step ") p step) b.is ∙ append_assoc before (part_text pair (codes "base ") p base) (part_text pair (codes "step ") p step);
+}
+both_parts pair k classes p before middle after base step (Err x) ba bt b sa st s = s
 
 -- the parts of all places before this one stand after a text
 pub record SoFar (pair : Pair) (k : ℕ) (classes : Classes) (place : ℕ) (before text : List ℕ) : Type 0 where

@@ -5,8 +5,8 @@ use Rattle.circ_model.specs.Meaning.{Pair, places_of, row_at, value_in}
 use Rattle.circ_model.specs.Correspondence.{HoldsIn}
 use Rattle.class_partition.specs.Classes.{Classes, HoldIn, IsStable, needed}
 use Rattle.frame_questions.specs.declared.found.Seen.{Seen}
-use Rattle.frame_questions.specs.declared.found.Found.{Found}
-use Rattle.frame_questions.specs.declared.found.Found.TheVariants as found
+use Rattle.frame_questions.specs.declared.found.Separation.{Separation}
+use Rattle.frame_questions.specs.declared.found.Separation.TheVariants as found
 use Rattle.frame_questions.specs.Found.{IsFound, IsSeen}
 use Rattle.frame_unroll.specs.Unrolled.{Unrolling, from_reset, after_classes, formula_of, asks, asking}
 use Rattle.sat_log.specs.Derivations.{Line, IsAccepted}
@@ -38,23 +38,23 @@ step_unseen pair k classes p s stable lt seen =
     apart pair s (row_at pair s.path k) (needed classes p) row (stable.step s.path seen.sought.is_path seen.sought.rows hold p lt) seen.apart
 
 -- what was found, of the frames and the literals that were asked for
-found_as : (u v : Unrolling) (r s : ℕ × ℕ) (first last : ℕ) (f g : Found) → u ≡ v → r ≡ s → f ≡ g → IsFound u (asks r.0 r.1 first last) f → IsFound v (asks s.0 s.1 first last) g
+found_as : (u v : Unrolling) (r s : ℕ × ℕ) (first last : ℕ) (f g : Separation) → u ≡ v → r ≡ s → f ≡ g → IsFound u (asks r.0 r.1 first last) f → IsFound v (asks s.0 s.1 first last) g
 found_as u v r s first last f g eu er ef h =
     subst (IsFound v (asks s.0 s.1 first last)) ef (subst (λ (x : ℕ × ℕ). IsFound v (asks x.0 x.1 first last) f) er (subst (λ (x : Unrolling). IsFound x (asks r.0 r.1 first last) f) eu h))
 
-pub base_accepted : (pair : Pair) (k : ℕ) (classes : Classes) (p : ℕ) (u : Unrolling) (r : ℕ × ℕ) (f : Found) (log : List Line) → u ≡ from_reset pair k → r ≡ needed classes p → f ≡ found.None log
+pub base_accepted : (pair : Pair) (k : ℕ) (classes : Classes) (p : ℕ) (u : Unrolling) (r : ℕ × ℕ) (f : Separation) (log : List Line) → u ≡ from_reset pair k → r ≡ needed classes p → f ≡ found.None log
     → IsFound u (asks r.0 r.1 0 (k - 1)) f → IsAccepted (base_formula pair k classes p) log
 base_accepted pair k classes p u r f log eu er ef h = (found_as u (from_reset pair k) r (needed classes p) 0 (k - 1) f (found.None log) eu er ef h).1
 
-pub step_accepted : (pair : Pair) (k : ℕ) (classes : Classes) (p : ℕ) (u : Unrolling) (r : ℕ × ℕ) (f : Found) (log : List Line) → u ≡ after_classes pair k classes → r ≡ needed classes p → f ≡ found.None log
+pub step_accepted : (pair : Pair) (k : ℕ) (classes : Classes) (p : ℕ) (u : Unrolling) (r : ℕ × ℕ) (f : Separation) (log : List Line) → u ≡ after_classes pair k classes → r ≡ needed classes p → f ≡ found.None log
     → IsFound u (asks r.0 r.1 k k) f → IsAccepted (step_formula pair k classes p) log
 step_accepted pair k classes p u r f log eu er ef h = (found_as u (after_classes pair k classes) r (needed classes p) k k f (found.None log) eu er ef h).1
 
-pub no_base_path : (pair : Pair) (k : ℕ) (classes : Classes) (p : ℕ) (u : Unrolling) (r : ℕ × ℕ) (f : Found) (s : Seen) → 0 < k → IsStable pair k classes → p < places_of pair → u ≡ from_reset pair k → r ≡ needed classes p → f ≡ found.Path s
+pub no_base_path : (pair : Pair) (k : ℕ) (classes : Classes) (p : ℕ) (u : Unrolling) (r : ℕ × ℕ) (f : Separation) (s : Seen) → 0 < k → IsStable pair k classes → p < places_of pair → u ≡ from_reset pair k → r ≡ needed classes p → f ≡ found.Path s
     → IsFound u (asks r.0 r.1 0 (k - 1)) f → ⊥
 no_base_path pair k classes p u r f s some stable lt eu er ef h = base_unseen pair k classes p s some stable lt (found_as u (from_reset pair k) r (needed classes p) 0 (k - 1) f (found.Path s) eu er ef h)
 
-pub no_step_path : (pair : Pair) (k : ℕ) (classes : Classes) (p : ℕ) (u : Unrolling) (r : ℕ × ℕ) (f : Found) (s : Seen) → IsStable pair k classes → p < places_of pair → u ≡ after_classes pair k classes → r ≡ needed classes p → f ≡ found.Path s
+pub no_step_path : (pair : Pair) (k : ℕ) (classes : Classes) (p : ℕ) (u : Unrolling) (r : ℕ × ℕ) (f : Separation) (s : Seen) → IsStable pair k classes → p < places_of pair → u ≡ after_classes pair k classes → r ≡ needed classes p → f ≡ found.Path s
     → IsFound u (asks r.0 r.1 k k) f → ⊥
 no_step_path pair k classes p u r f s stable lt eu er ef h = step_unseen pair k classes p s stable lt (found_as u (after_classes pair k classes) r (needed classes p) k k f (found.Path s) eu er ef h)
 

@@ -53,10 +53,10 @@ pub record AreFrames (pair : Pair) (k : ℕ) (classes : Classes) (base step : Un
   pub base_count : (p : ℕ) → base_clauses ≡ length (base_formula pair k classes p).clauses
   pub step_count : (p : ℕ) → step_clauses ≡ length (step_formula pair k classes p).clauses
 
--- a member's part with these words before its name is added to a text
-pub record AddsPart (pair : Pair) (keyword : List ℕ) (p : ℕ) (formula : Formula) (before after : List ℕ) : Type 0 where
-  pub log : List Line
-  pub derives : Derives formula log
+-- a member's part with these words before its name is added to a text, of a log whose lines have a text
+pub record AddsPart (pair : Pair) (keyword : List ℕ) (p : ℕ) (log : List Line) (before after : List ℕ) : Type 0 where
+  pub lines : AreLines log
+  pub hints : All HasText log
   pub is : after ≡ before ++ part_text pair keyword p log
 
 -- a member's two parts are added to a text

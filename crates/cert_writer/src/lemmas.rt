@@ -8,37 +8,18 @@
 
 ghost use Rattle.std.specs.Prelude.{◌≡◌, ◌<◌, ◌≤◌, length};
 ghost use Rattle.std.specs.List.{All};
-ghost use Rattle.cnf_store.specs.Clauses.{IsLiteral, AreLiterals};
 ghost use Rattle.log_check.specs.FirstBad.{Decides};
 
 use crate::trimming::trim;
 use circ_model::Lit;
 use class_partition::Classes;
 use cnf_store::Cnf;
+use log_check::are_within;
 use product_machine::Cell;
 use sat_core::{Answer, Ready, Workspace};
 use sat_log::Log;
 use std::alloc::{AllocError, Global};
 use std::marker::Model;
-
-// Whether a literal is of so many variables.
-fn is_within(lit: i32, vars: u32) -> bool
-    ensures { Decides result (IsLiteral vars lit) }
-{
-    lit != 0 && lit.unsigned_abs() <= vars
-}
-
-// Whether all literals are.
-fn are_within(literals: &[i32], vars: u32) -> bool
-    ensures { Decides result (AreLiterals vars literals.now) }
-{
-    for lit in literals {
-        if !is_within(*lit, vars) {
-            return false;
-        }
-    }
-    true
-}
 
 // Whether a hint is the number of a clause.
 fn is_number(hint: u64) -> bool
@@ -493,18 +474,9 @@ impl Lines {
     {
         let mut log = Log::new(alloc);
         let mut numbers = Vec::new(alloc);
-        let kept = match self.keep_marked(alloc, marks, last, &mut numbers, &mut log) {
-            Ok(()) => self.end_log(known, x, numbers.as_slice(), &mut log),
-            Err(error) => Err(error),
-        };
-        drop(numbers);
-        match kept {
-            Ok(()) => Ok(log),
-            Err(error) => {
-                drop(log);
-                Err(error)
-            }
-        }
+        self.keep_marked(alloc, marks, last, &mut numbers, &mut log)?;
+        self.end_log(known, x, numbers.as_slice(), &mut log)?;
+        Ok(log)
     }
 
     // Adds the lines that are marked.

@@ -1,7 +1,7 @@
 //! Writing a certificate: the classes, and for each needed pair the logs of its two questions, which are solved again. The
 //! frames are made once, and lent to each question; the logs are trimmed. A log of the last frame is made of what lower places
 //! have derived, and checked; where it isn't accepted the question is asked on its own.
-ghost use Rattle.std.specs.Prelude.{◌≡◌, ◌<◌, ◌≤◌, ◌/◌, ◌-◌, ◌++◌, ◌∷◌, ℕ, List, IfOk, IfSome, OnOk, None, codes, decimal, length, true};
+ghost use Rattle.std.specs.Prelude.{◌≡◌, ◌<◌, ◌≤◌, ◌/◌, ◌-◌, ◌++◌, ◌∷◌, ℕ, List, IfOk, IfSome, OnOk, None, decimal, length, true};
 ghost use Rattle.std.specs.List.{All};
 ghost use Rattle.circ_model.specs.Correspondence.{IsLiteral};
 ghost use Rattle.circ_model.specs.Meaning.{places_of};
@@ -22,7 +22,7 @@ use crate::trimming::trim;
 use circ_model::{Lit, Signal};
 use class_partition::Classes;
 use class_text::{push_class_lines, push_name};
-use frame_questions::{Found, Prepared, Workspace};
+use frame_questions::{Prepared, Separation, Workspace};
 use frame_unroll::Unrolled;
 use itoa::Buffer;
 use log_check::check;
@@ -85,9 +85,10 @@ impl<'p> Model for Frames<'p> {
     ghost invariant = { λ f. AreFrames f.product.now f.k f.classes.now f.base f.step f.base_clauses f.step_clauses };
 }
 
-// The memory in which their questions are asked, what is derived in the last frame, and the frames that a log is checked over.
+// The solvers of their questions, by the memory in which they are asked, what is derived in the last frame, and the frames that
+// a log is checked over.
 #[derive(Drop)]
-struct Workspaces<'p> {
+struct Solvers<'p> {
     base: Workspace,
     step: Workspace,
     lemmas: Lemmas,
@@ -215,13 +216,13 @@ fn with_base<'p>(
     }
 }
 
-// The memory for their questions.
-fn workspaces_of<'p>(
+// The solvers of their questions.
+fn solvers_of<'p>(
     alloc: Global,
     product: &'p Product,
     k: u32,
     classes: &Classes,
-) -> Result<Workspaces<'p>, AllocError>
+) -> Result<Solvers<'p>, AllocError>
     requires few { k ≤ 16 }
     requires places { length classes.now.least ≡ places_of product.now }
     ensures { IfOk result (λ work. work.asked ≡ after_classes product.entry.now k classes.now) }
@@ -229,7 +230,7 @@ fn workspaces_of<'p>(
     let asked = Unrolled::step_frames(alloc, product, k, classes)?;
     let base = k.saturating_mul(product.len());
     match Lemmas::new(alloc, asked.cnf(), product.len(), base) {
-        Ok(lemmas) => Ok(Workspaces {
+        Ok(lemmas) => Ok(Solvers {
             base: Workspace::new(),
             step: Workspace::new(),
             lemmas,
@@ -257,8 +258,8 @@ fn base_log(
     let (a, b) = frames.classes.needed(place);
     let k = frames.k;
     match frames.base.find_in(alloc, work, a, b, 0, k - 1)? {
-        Found::None(log) => trim(alloc, frames.base_clauses, log),
-        Found::Path(_seen) => unreachable!(),
+        Separation::None(log) => trim(alloc, frames.base_clauses, log),
+        Separation::Path(_seen) => unreachable!(),
     }
 }
 
@@ -277,8 +278,8 @@ fn step_log(
     let (a, b) = frames.classes.needed(place);
     let k = frames.k;
     match frames.step.find_in(alloc, work, a, b, k, k)? {
-        Found::None(log) => trim(alloc, frames.step_clauses, log),
-        Found::Path(_seen) => unreachable!(),
+        Separation::None(log) => trim(alloc, frames.step_clauses, log),
+        Separation::Path(_seen) => unreachable!(),
     }
 }
 
@@ -339,7 +340,7 @@ fn accepted_in(
 // The log by what lower places have derived, where it is accepted.
 fn derived_log(
     alloc: Global,
-    work: &mut Workspaces<'_>,
+    work: &mut Solvers<'_>,
     frames: &Frames<'_>,
     place: u32,
     a: Lit,
@@ -360,7 +361,7 @@ fn derived_log(
 // The log of the last frame, by what lower places have derived or on its own.
 fn last_log(
     alloc: Global,
-    work: &mut Workspaces<'_>,
+    work: &mut Solvers<'_>,
     frames: &Frames<'_>,
     place: u32,
 ) -> Result<Log, AllocError>
@@ -396,40 +397,19 @@ fn push_part(
     Ok(())
 }
 
-// Adds the part of a place in the first k frames.
-fn push_base(
-    alloc: Global,
-    work: &mut Workspace,
+// Adds the part of a place: its name after a keyword, and the log of one of its two questions.
+fn push_log(
+    keyword: &[u8],
     frames: &Frames<'_>,
     place: u32,
+    log: Log,
     text: &mut Vec<u8>,
 ) -> Result<(), AllocError>
     requires place { place < places_of frames.now.pair }
-    ensures { OnOk result (AddsPart frames.now.pair (codes "base ") place (base_formula frames.now.pair frames.now.k frames.now.classes place) text.old.items text.new.items) }
+    ensures { OnOk result (AddsPart frames.now.pair keyword.now place log text.old.items text.new.items) }
 {
     let signal = frames.product.signal(place);
-    let log = base_log(alloc, work, frames, place)?;
-    let pushed = push_part(b"base ", signal, &log, text);
-    drop(log);
-    pushed
-}
-
-// Adds the part of a place after k frames in which the classes hold.
-fn push_step(
-    alloc: Global,
-    work: &mut Workspaces<'_>,
-    frames: &Frames<'_>,
-    place: u32,
-    text: &mut Vec<u8>,
-) -> Result<(), AllocError>
-    requires asked { work.old.asked ≡ after_classes frames.now.pair frames.now.k frames.now.classes }
-    requires place { place < places_of frames.now.pair }
-    ensures added { OnOk result (AddsPart frames.now.pair (codes "step ") place (step_formula frames.now.pair frames.now.k frames.now.classes place) text.old.items text.new.items) }
-    ensures asked { OnOk result (work.new.asked ≡ work.old.asked) }
-{
-    let signal = frames.product.signal(place);
-    let log = last_log(alloc, work, frames, place)?;
-    let pushed = push_part(b"step ", signal, &log, text);
+    let pushed = push_part(keyword, signal, &log, text);
     drop(log);
     pushed
 }
@@ -437,7 +417,7 @@ fn push_step(
 // Adds the two parts of a place.
 fn push_member(
     alloc: Global,
-    work: &mut Workspaces<'_>,
+    work: &mut Solvers<'_>,
     frames: &Frames<'_>,
     place: u32,
     text: &mut Vec<u8>,
@@ -447,14 +427,16 @@ fn push_member(
     ensures added { OnOk result (AddsMember frames.now.pair frames.now.k frames.now.classes place text.old.items text.new.items) }
     ensures asked { OnOk result (work.new.asked ≡ work.old.asked) }
 {
-    push_base(alloc, &mut work.base, frames, place, text)?;
-    push_step(alloc, work, frames, place, text)
+    let base = base_log(alloc, &mut work.base, frames, place)?;
+    push_log(b"base ", frames, place, base, text)?;
+    let step = last_log(alloc, work, frames, place)?;
+    push_log(b"step ", frames, place, step, text)
 }
 
 // Adds the parts of all places that aren't the least of their class, and the end.
 fn push_members(
     alloc: Global,
-    work: &mut Workspaces<'_>,
+    work: &mut Solvers<'_>,
     frames: &Frames<'_>,
     text: &mut Vec<u8>,
 ) -> Result<(), AllocError>
@@ -499,14 +481,10 @@ fn push_parts(
     ensures { OnOk result (AddsMembers product.now k classes.now text.old.items text.new.items) }
 {
     let _places = classes.len();
-    match frames_of(alloc, product, k, classes) {
-        Ok(frames) => {
-            let pushed = push_over(alloc, product, k, classes, &frames, text);
-            drop(frames);
-            pushed
-        }
-        Err(error) => Err(error),
-    }
+    let frames = frames_of(alloc, product, k, classes)?;
+    let pushed = push_over(alloc, product, k, classes, &frames, text);
+    drop(frames);
+    pushed
 }
 
 // Adds the parts of all places, over these frames.
@@ -523,7 +501,7 @@ fn push_over(
     requires frames { frames.now ≡ record { pair = product.now; k = k; classes = classes.now } }
     ensures { OnOk result (AddsMembers product.now k classes.now text.old.items text.new.items) }
 {
-    let mut work = workspaces_of(alloc, product, k, classes)?;
+    let mut work = solvers_of(alloc, product, k, classes)?;
     let pushed = push_members(alloc, &mut work, frames, text);
     drop(work);
     pushed

@@ -4,4 +4,6 @@ use Rattle.cert_writer.proofs.writing.push_member.Goals as goal
 pub returns-clause-added : goal.returns-clause-added
 returns-clause-added c =
     let s = c.args.frames.now in
-    both_parts s.pair s.k s.classes c.args.place c.args.text.now.items c.push_base.new.text.items c.push_step.new.text.items c.push_step.result c.in_ok-push_base.ensures c.push_step.ensures.added
+    let base = c.in_ok-base.ensures in
+    let step = c.in_ok-step.ensures in
+    both_parts s.pair s.k s.classes c.args.place c.args.text.now.items c.push_log.new.text.items c.push_log-2.new.text.items c.in_ok-base.base c.in_ok-step.step c.push_log-2.result base.accepted base.trimmed c.in_ok-push_log.ensures step.accepted step.trimmed c.push_log-2.ensures
