@@ -7,7 +7,8 @@ use Rattle.refine_board.specs.declared.journal.Step.TheVariants.{Idle, Done, For
 use Rattle.refine_board.specs.declared.journal.Entry.{Entry}
 use Rattle.refine_board.specs.Tallies.{is_offered, is_split, is_back}
 use Rattle.sec_cli.specs.declared.counting.Stats.{Stats}
-use Rattle.sec_cli.specs.Stats.{AreBelow, IsOneMore, is_counted, is_stale, is_already, stats_of, one_if}
+use Rattle.split_workers.specs.Reports.{is_counted, is_stale, is_already, one_if}
+use Rattle.sec_cli.specs.Stats.{AreBelow, IsOneMore, stats_of}
 
 count_more : (p : Step → Bool) (entries : List Entry) (i : ℕ) (entry : Entry) → i < length entries → entry ≡ get_or entries i entry
     → count_by (λ (e : Entry). p e.step) (take (i + 1) entries) ≡ count_by (λ (e : Entry). p e.step) (take i entries) + one_if (p entry.step)

@@ -1,28 +1,16 @@
 -- How many entries of a journal are of each kind.
-use Rattle.std.specs.Prelude.{◌≡◌, ℕ, ◌+◌, ◌<◌, List, Bool, true, false, count_by}
+use Rattle.std.specs.Prelude.{◌≡◌, ℕ, ◌+◌, ◌<◌, List, count_by}
 use Rattle.refine_board.specs.declared.journal.Step.{Step}
-use Rattle.refine_board.specs.declared.journal.Step.TheVariants.{Counted, Stale, Already}
 use Rattle.refine_board.specs.declared.journal.Entry.{Entry}
 use Rattle.refine_board.specs.Tallies.{is_offered, is_split, is_back, offered_entries, split_entries, back_entries}
+use Rattle.split_workers.specs.Reports.{is_counted, is_stale, is_already, one_if}
 use Rattle.sec_cli.specs.declared.counting.Stats.{Stats}
-
-abbrev pub is_counted : Step → Bool
-is_counted (Counted p w) = true
-is_counted e = false
 
 abbrev pub counted_entries : List Entry → ℕ
 counted_entries entries = count_by (λ (e : Entry). is_counted e.step) entries
 
-abbrev pub is_stale : Step → Bool
-is_stale (Stale p) = true
-is_stale e = false
-
 abbrev pub stale_entries : List Entry → ℕ
 stale_entries entries = count_by (λ (e : Entry). is_stale e.step) entries
-
-abbrev pub is_already : Step → Bool
-is_already (Already bits) = true
-is_already e = false
 
 abbrev pub already_entries : List Entry → ℕ
 already_entries entries = count_by (λ (e : Entry). is_already e.step) entries
@@ -45,10 +33,6 @@ pub record AreBelow (most : ℕ) (s : Stats) : Type 0 where
   pub splits : s.splits < most
   pub already : s.already < most
   pub back : s.back < most
-
-abbrev pub one_if : Bool → ℕ
-one_if true = 1
-one_if false = 0
 
 -- the number of the kind of this step has grown by one
 pub record IsOneMore (before : Stats) (step : Step) (after : Stats) : Type 0 where
