@@ -2,6 +2,8 @@
 use Rattle.std.specs.Prelude.{◌≡◌, ◌≢◌, ℕ, List, length, Bool, IsTrue, Option}
 use Rattle.circ_model.specs.Netlist.{Netlist}
 use Rattle.circ_model.specs.Meaning.{Pair, IsSoundPair, free_latches}
+use Rattle.product_machine.specs.declared.product.PairFault.{PairFault}
+use Rattle.product_machine.specs.declared.product.PairFault.TheVariants as faults
 use Rattle.pair_files.specs.declared.fault.Side.{Side}
 use Rattle.pair_files.specs.declared.fault.Side.TheVariants.{Left, Right}
 use Rattle.pair_files.specs.declared.fault.Unpaired.{Unpaired}
@@ -31,6 +33,13 @@ AreApart pair (unpaired.FreeDiffer a b) =
 AreApart pair unpaired.Memory = Unit {0}
 AreApart pair (unpaired.LoadFailed side) = ⊥
 AreApart pair (unpaired.Refused side f) = ⊥
+
+-- there is no pair where two netlists have no product
+abbrev pub unpaired_by : PairFault → Unpaired
+unpaired_by (faults.Inputs a b) = unpaired.InputsDiffer a b
+unpaired_by (faults.Outputs a b) = unpaired.OutputsDiffer a b
+unpaired_by (faults.Free a b) = unpaired.FreeDiffer a b
+unpaired_by faults.Memory = unpaired.Memory
 
 -- why there is no pair of these two files, tied or not
 abbrev pub IsNoPair : Bool → Option (List ℕ) → Option (List ℕ) → Unpaired → Type 0

@@ -10,10 +10,9 @@ ghost use Rattle.pair_files.specs.declared.fault.Unread.TheVariants as Unread;
 
 use crate::fault::{Side, Unpaired, Unread};
 use aig_graph::Netlist;
-use aiger_codec::{NetError, NetFault, NetKind};
 use aiger_file::read_netlist;
 use product_machine::{PairFault, Product};
-use sec_base::{LoadFault, Shelf};
+use sec_base::Shelf;
 use std::alloc::Global;
 
 /// As many bytes as the file of a netlist may have.
@@ -29,19 +28,8 @@ pub fn load_netlist<S: Shelf>(alloc: Global, shelf: &mut S, name: &str) -> Resul
     ensures store_count { S.store_faults shelf.new ≡ S.store_faults shelf.old }
 {
     let mut bytes = Vec::new(alloc);
-    match shelf.load(name, LONGEST_NETLIST, &mut bytes) {
-        Ok(()) => match read_netlist(alloc, bytes.as_slice()) {
-            Ok(net) => Ok(net),
-            Err(NetError::Refused(fault)) => Err(Unread::Refused(fault)),
-            Err(NetError::Memory) => Err(Unread::Memory),
-        },
-        Err(LoadFault::TooLong) => Err(Unread::Refused(NetFault {
-            kind: NetKind::Limit,
-            at: LONGEST_NETLIST,
-        })),
-        Err(LoadFault::Failed) => Err(Unread::Failed),
-        Err(LoadFault::Memory) => Err(Unread::Memory),
-    }
+    shelf.load(name, LONGEST_NETLIST, &mut bytes)?;
+    Ok(read_netlist(alloc, bytes.as_slice())?)
 }
 
 /// There is no netlist of this file, and so no pair.
@@ -71,16 +59,9 @@ fn pair_of(alloc: Global, left: Netlist, right: Netlist, tied: bool) -> Result<P
     ensures pair { IfOk result (λ p. (p ≡ record { left = left; right = right; tied = tied }) × IsSoundPair p) }
     ensures apart { IfErr result (AreApart (record { left = left; right = right; tied = tied })) }
 {
-    match paired(alloc, left, right, tied) {
-        Ok(product) => {
-            let _sound = product.cells();
-            Ok(product)
-        }
-        Err(PairFault::Inputs(a, b)) => Err(Unpaired::InputsDiffer(a, b)),
-        Err(PairFault::Outputs(a, b)) => Err(Unpaired::OutputsDiffer(a, b)),
-        Err(PairFault::Free(a, b)) => Err(Unpaired::FreeDiffer(a, b)),
-        Err(PairFault::Memory) => Err(Unpaired::Memory),
-    }
+    let product = paired(alloc, left, right, tied)?;
+    let _sound = product.cells();
+    Ok(product)
 }
 
 /// The pair of two files, tied or not. The left one is loaded and read first.
