@@ -118,7 +118,7 @@ pub enum Command<'w> {
 
 /// Why no command was read.
 #[derive(Clone, Copy, Debug, PartialEq, Eq)]
-pub enum Unread {
+pub enum WordsFault {
     /// The words are no command.
     NotACommand,
     /// There was no memory.

@@ -6,5 +6,5 @@ mod command;
 mod read;
 mod taken;
 
-pub use command::{Batch, Check, Climb, Command, Demo, Reduce, Replay, Unread, Verify};
+pub use command::{Batch, Check, Climb, Command, Demo, Reduce, Replay, Verify, WordsFault};
 pub use read::read_words;

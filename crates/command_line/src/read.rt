@@ -4,7 +4,7 @@ ghost use Rattle.command_line.specs.Asked.{Asked, asked_of, IsWithin};
 ghost use Rattle.command_line.specs.Meant.{AreNoCommand, is_taken, meant, taken_command};
 ghost use Rattle.command_line.specs.Plain.{plain_command, texts};
 
-use crate::command::{Command, Unread};
+use crate::command::{Command, WordsFault};
 use crate::taken::taken_command;
 use std::alloc::Global;
 
@@ -15,12 +15,12 @@ use std::alloc::Global;
 /// Clap reads them. Plain words it always takes, and they mean what they say; other words that it takes mean what its matches
 /// say. The names are texts among the words. An error says that clap refuses the words, so that they aren't plain and mean
 /// nothing, or that it had no memory.
-pub fn read_words<'w>(alloc: Global, words: &'w [String]) -> Result<Command<'w>, Unread>
-    ensures meant { MatchResult result (λ c. meant (texts words.now) ≡ Some (asked_of c)) (λ e. e ≡ Unread.NotACommand → meant (texts words.now) ≡ None) }
-    ensures plain { is_some (plain_command (texts words.now)) ≡ true → IfErr result (λ e. e ≡ Unread.Memory) }
+pub fn read_words<'w>(alloc: Global, words: &'w [String]) -> Result<Command<'w>, WordsFault>
+    ensures meant { MatchResult result (λ c. meant (texts words.now) ≡ Some (asked_of c)) (λ e. e ≡ WordsFault.NotACommand → meant (texts words.now) ≡ None) }
+    ensures plain { is_some (plain_command (texts words.now)) ≡ true → IfErr result (λ e. e ≡ WordsFault.Memory) }
     ensures agree { (a : Asked) → plain_command (texts words.now) ≡ Some a → taken_command (texts words.now) ≡ Some a }
-    ensures refused { IfErr result (λ e. e ≡ Unread.NotACommand → AreNoCommand (texts words.now)) }
-    ensures taken { is_taken (texts words.now) ≡ true → IfErr result (λ e. e ≡ Unread.Memory) }
+    ensures refused { IfErr result (λ e. e ≡ WordsFault.NotACommand → AreNoCommand (texts words.now)) }
+    ensures taken { is_taken (texts words.now) ≡ true → IfErr result (λ e. e ≡ WordsFault.Memory) }
     ensures within { IfOk result (λ c. IsWithin (asked_of c)) }
 {
     taken_command(alloc, words)

@@ -8,7 +8,7 @@ ghost use Rattle.command_line.specs.Plain.{texts};
 use crate::app::{Subcommand, sec_command};
 use crate::command::{
     Batch, Check, Climb, Command, Demo, MOST_DEPTH, MOST_SEARCH_DEPTH, MOST_SIZE, MOST_WORKERS,
-    Reduce, Replay, Unread, Verify,
+    Reduce, Replay, Verify, WordsFault,
 };
 use clap::ArgMatches;
 use clap::error::ErrorKind;
@@ -221,20 +221,20 @@ fn matched<'w>(matches: &ArgMatches<'w>) -> Option<Command<'w>>
 }
 
 /// The command that clap reads of the words, where it takes them: then there always is one.
-pub(crate) fn taken_command<'w>(alloc: Global, words: &'w [String]) -> Result<Command<'w>, Unread>
-    ensures read { MatchResult result (λ c. taken_command (texts words.now) ≡ Some (asked_of c)) (λ e. e ≡ Unread.NotACommand → taken_command (texts words.now) ≡ None) }
-    ensures refused { IfErr result (λ e. e ≡ Unread.NotACommand → is_taken (texts words.now) ≡ false) }
-    ensures taken { is_taken (texts words.now) ≡ true → IfErr result (λ e. e ≡ Unread.Memory) }
+pub(crate) fn taken_command<'w>(alloc: Global, words: &'w [String]) -> Result<Command<'w>, WordsFault>
+    ensures read { MatchResult result (λ c. taken_command (texts words.now) ≡ Some (asked_of c)) (λ e. e ≡ WordsFault.NotACommand → taken_command (texts words.now) ≡ None) }
+    ensures refused { IfErr result (λ e. e ≡ WordsFault.NotACommand → is_taken (texts words.now) ≡ false) }
+    ensures taken { is_taken (texts words.now) ≡ true → IfErr result (λ e. e ≡ WordsFault.Memory) }
     ensures within { IfOk result (λ c. IsWithin (asked_of c)) }
 {
     let Ok(command) = sec_command(alloc) else {
-        return Err(Unread::Memory);
+        return Err(WordsFault::Memory);
     };
     match command.try_get_matches_from(words) {
         Ok(matches) => Ok(matched(&matches).unwrap()),
         Err(error) => match error.kind() {
-            ErrorKind::OutOfMemory => Err(Unread::Memory),
-            _ => Err(Unread::NotACommand),
+            ErrorKind::OutOfMemory => Err(WordsFault::Memory),
+            _ => Err(WordsFault::NotACommand),
         },
     }
 }

@@ -68,8 +68,8 @@ fn said(alloc: Global, text: &str) -> Result<String, AllocError> {
             let (list, k, workers) = (b.list, b.k, b.workers);
             format!(in alloc; "batch <{list}> k={k} j={workers}")
         }
-        Err(Unread::NotACommand) => format!(in alloc; "no command"),
-        Err(Unread::Memory) => format!(in alloc; "no memory"),
+        Err(WordsFault::NotACommand) => format!(in alloc; "no command"),
+        Err(WordsFault::Memory) => format!(in alloc; "no memory"),
     }
 }
 

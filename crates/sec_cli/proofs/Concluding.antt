@@ -9,7 +9,7 @@ use Rattle.pair_files.specs.declared.fault.Unpaired.TheVariants as unpaired
 use Rattle.batch_run.specs.declared.ending.Unanswered.{Unanswered}
 use Rattle.batch_run.specs.declared.ending.Unanswered.TheVariants as unanswered
 use Rattle.batch_run.specs.Endings.{IsFailed, failed_of, unanswered_status, unanswered_text}
-use Rattle.sec_cli.specs.declared.ending.Answer.{Answer}
+use Rattle.sec_cli.specs.declared.ending.Reply.{Reply}
 use Rattle.sec_cli.specs.declared.ending.Refusal.{Refusal}
 use Rattle.sec_cli.specs.declared.ending.Refusal.TheVariants as refusals
 use Rattle.command_line.specs.Asked.{Asked, ForCheck, ForReplay, ForVerify, ForDemo, ForClimb, ForReduce, ForBatch}
@@ -162,7 +162,7 @@ batch_journal (ForClimb c) status journal is has = absurd is
 batch_journal (ForReduce r) status journal is has = absurd is
 
 -- the clauses of a run, for each ending
-printed_answer : (tells : Bool) (c : Asked) (a : Answer) (journal : Option Written) (before after : World) (status : ℕ) → HasJournal c a.status a.journal → journal ≡ a.journal → Ended tells before.files c (Ok a)
+printed_answer : (tells : Bool) (c : Asked) (a : Reply) (journal : Option Written) (before after : World) (status : ℕ) → HasJournal c a.status a.journal → journal ≡ a.journal → Ended tells before.files c (Ok a)
     → status ≡ a.status → IsPrinted tells (store_name c a.status) a before after → IsAnswered tells c status journal before after
 printed_answer tells c a journal before after status has from ended is p = record {
   answer = a;

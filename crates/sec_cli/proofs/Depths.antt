@@ -9,7 +9,7 @@ use Rattle.prover_table.specs.Tables.{IsKnownFor, IsMemoryFor}
 use Rattle.refine_board.specs.Running.{Written}
 use Rattle.command_line.specs.Asked.{CheckAsked, ClimbAsked, ForClimb}
 use Rattle.sec_cli.specs.declared.checking.Reached.{Reached}
-use Rattle.sec_cli.specs.declared.ending.Answer.{Answer}
+use Rattle.sec_cli.specs.declared.ending.Reply.{Reply}
 use Rattle.run_texts.specs.Verdicts.{status_of_verdict}
 use Rattle.sec_cli.specs.Answers.{IsCheckAnswer, IsRefinedText, IsVerdictText, is_refined}
 use Rattle.sec_cli.specs.Climbs.{IsOpen, IsLastTried, IsJournalBefore, IsClimbAnswer, IsReached, check_of_climb}
@@ -25,7 +25,7 @@ pub record IsSoFar (pair : Pair) (c : ClimbAsked) (k : ℕ) (before : Option Wri
 pub begins : (pair : Pair) (c : ClimbAsked) → 0 < c.most → IsSoFar pair c 1 None
 begins pair c some = record { some = omega arith; few = omega (arith, some); below = λ j from lt. absurd (omega (arith, from, lt)); journal = refl }
 
-open_at : (pair : Pair) (c : ClimbAsked) (k : ℕ) (a : Answer) → IsCheckAnswer pair (check_of_climb c k) a → a.status ≡ 2 → IsOpen pair k
+open_at : (pair : Pair) (c : ClimbAsked) (k : ℕ) (a : Reply) → IsCheckAnswer pair (check_of_climb c k) a → a.status ≡ 2 → IsOpen pair k
 open_at pair c k a (Equivalent n, is, status, text) two = absurd (omega (arith, status, two))
 open_at pair c k a (Different t j, is, status, text) two = absurd (omega (arith, status, two))
 open_at pair c k a (Undecided n u, is, status, text) two = (n, u, is)
@@ -34,13 +34,13 @@ journal_in : (pair : Pair) (c : ClimbAsked) (k : ℕ) (line text : List ℕ) (o 
 journal_in pair c k line text None some h = absurd h
 journal_in pair c k line text (Some j) some h = (k, some, refl, h.journal)
 
-journal_at : (pair : Pair) (c : ClimbAsked) (k : ℕ) (a : Answer) → 0 < k → IsCheckAnswer pair (check_of_climb c k) a → a.status ≡ 2 → IsJournalBefore pair c (k + 1) a.journal
+journal_at : (pair : Pair) (c : ClimbAsked) (k : ℕ) (a : Reply) → 0 < k → IsCheckAnswer pair (check_of_climb c k) a → a.status ≡ 2 → IsJournalBefore pair c (k + 1) a.journal
 journal_at pair c k a some (Equivalent n, is, status, text) two = absurd (omega (arith, status, two))
 journal_at pair c k a some (Different t j, is, status, text) two = absurd (omega (arith, status, two))
 journal_at pair c k a some (Undecided n u, is, status, text) two = journal_in pair c k _ _ a.journal some text
 
 -- one depth more
-pub goes_on : (pair : Pair) (c : ClimbAsked) (k : ℕ) (before : Option Written) (a : Answer) → IsSoFar pair c k before → k < c.most → IsCheckAnswer pair (check_of_climb c k) a → a.status ≡ 2 → IsSoFar pair c (k + 1) a.journal
+pub goes_on : (pair : Pair) (c : ClimbAsked) (k : ℕ) (before : Option Written) (a : Reply) → IsSoFar pair c k before → k < c.most → IsCheckAnswer pair (check_of_climb c k) a → a.status ≡ 2 → IsSoFar pair c (k + 1) a.journal
 goes_on pair c k before a so lt is two = record {
   some = omega arith;
   few = omega (arith, lt);
@@ -62,7 +62,7 @@ any_journal pair c (Different t j) text file o p one h = h
 any_journal pair c (Undecided n u) text file o p one h = absurd (omega (arith, one))
 
 -- an answer that ends the climb, with the journal that is due
-pub ends : (pair : Pair) (c : ClimbAsked) (k : ℕ) (before : Option Written) (a b : Answer) → IsSoFar pair c k before → (a.status ≡ 2 → k ≡ c.most) → IsCheckAnswer pair (check_of_climb c k) a
+pub ends : (pair : Pair) (c : ClimbAsked) (k : ℕ) (before : Option Written) (a b : Reply) → IsSoFar pair c k before → (a.status ≡ 2 → k ≡ c.most) → IsCheckAnswer pair (check_of_climb c k) a
     → b.status ≡ a.status → b.text.items ≡ a.text.items → b.file.items ≡ a.file.items → MatchBool (a.status == 1) (b.journal ≡ before) (b.journal ≡ a.journal) → IsClimbAnswer pair c b
 ends pair c k before a b so end (v, is, status, text) same_status same_text same_file journal = go (a.status == 1) refl journal
   where
@@ -85,12 +85,12 @@ ends pair c k before a b so end (v, is, status, text) same_status same_text same
         not_one h e = let bad : true ≡ false = sym (ap (λ (s : ℕ). s == 1) h) ∙ e in cc
 
 -- an answer that ends the climb with the first depth
-pub ends_at_once : (pair : Pair) (c : ClimbAsked) (check : CheckAsked) (a b : Answer) → 0 < c.most → check ≡ check_of_climb c 1 → a.status ≡ 1 → IsCheckAnswer pair check a
+pub ends_at_once : (pair : Pair) (c : ClimbAsked) (check : CheckAsked) (a b : Reply) → 0 < c.most → check ≡ check_of_climb c 1 → a.status ≡ 1 → IsCheckAnswer pair check a
     → b.status ≡ a.status → b.text.items ≡ a.text.items → b.file.items ≡ a.file.items → MatchBool (a.status == 1) (b.journal ≡ None) (b.journal ≡ a.journal) → IsClimbAnswer pair c b
 ends_at_once pair c check a b some same one is status text file journal =
     ends pair c 1 None a b (begins pair c some) (λ two. absurd (omega (arith, one, two))) (subst (λ (x : CheckAsked). IsCheckAnswer pair x a) same is) status text file journal
 
-pub has_journal : (c : ClimbAsked) (before : Option Written) (a b : Answer) → is_some a.journal ≡ is_refined a.status → b.status ≡ a.status → MatchBool (a.status == 1) (b.journal ≡ before) (b.journal ≡ a.journal)
+pub has_journal : (c : ClimbAsked) (before : Option Written) (a b : Reply) → is_some a.journal ≡ is_refined a.status → b.status ≡ a.status → MatchBool (a.status == 1) (b.journal ≡ before) (b.journal ≡ a.journal)
     → HasJournal (ForClimb c) b.status b.journal
 has_journal c before a b has same journal other = go (a.status == 1) refl journal
   where
@@ -98,7 +98,7 @@ has_journal c before a b has same journal other = go (a.status == 1) refl journa
     go true e j = absurd (other (same ∙ eqb-true a.status 1 e))
     go false e j = ap is_some j ∙ has ∙ ap not e
 
-agree_at : (pair : Pair) (c : ClimbAsked) (k : ℕ) (a : Answer) → IsCheckAnswer pair (check_of_climb c k) a → a.status ≡ 2 → AgreeBelow pair k
+agree_at : (pair : Pair) (c : ClimbAsked) (k : ℕ) (a : Reply) → IsCheckAnswer pair (check_of_climb c k) a → a.status ≡ 2 → AgreeBelow pair k
 agree_at pair c k a (Equivalent n, is, status, text) two = absurd (omega (arith, status, two))
 agree_at pair c k a (Different t j, is, status, text) two = absurd (omega (arith, status, two))
 agree_at pair c k a (Undecided n u, is, status, text) two = is.0
@@ -112,7 +112,7 @@ memory_for pair k version None same at h = h
 memory_for pair k version (Some m) same at h = (h.0 ∙ same, omega (arith, h.1, at))
 
 -- what is known before the next depth
-pub reaches : (pair : Pair) (c : ClimbAsked) (k : ℕ) (a : Answer) (version : Standing) (r : Reached) → IsCheckAnswer pair (check_of_climb c k) a → a.status ≡ 2 → version.pair ≡ pair → version.k ≡ k → r.agreed ≡ version.k
+pub reaches : (pair : Pair) (c : ClimbAsked) (k : ℕ) (a : Reply) (version : Standing) (r : Reached) → IsCheckAnswer pair (check_of_climb c k) a → a.status ≡ 2 → version.pair ≡ pair → version.k ≡ k → r.agreed ≡ version.k
     → IfSome r.earlier.known (λ n. (n.pair ≡ version.pair) × (n.k ≡ version.k)) → IfSome r.earlier.memory (IsMemoryFor version.pair (version.k + 1)) → IsReached pair (k + 1) r
 reaches pair c k a version r is two same at agreed known memory = (
   subst (AgreeBelow pair) (sym (agreed ∙ at)) (agree_at pair c k a is two),

@@ -13,7 +13,7 @@ use Rattle.trace_witness.specs.Texts.{trace_text}
 use Rattle.refine_board.specs.declared.journal.Entry.{Entry}
 use Rattle.refine_board.specs.Running.{Written}
 use Rattle.command_line.specs.Asked.{Asked, CheckAsked, ClimbAsked, ForCheck, ForReplay, ForVerify, ForDemo, ForClimb, ForReduce, ForBatch}
-use Rattle.sec_cli.specs.declared.ending.Answer.{Answer}
+use Rattle.sec_cli.specs.declared.ending.Reply.{Reply}
 use Rattle.run_texts.specs.Lines.{different_line}
 use Rattle.run_texts.specs.Verdicts.{status_of_verdict}
 use Rattle.sec_cli.specs.Answers.{IsCheckAnswer, IsRefinedText, IsVerdictText, stats_lines}
@@ -63,7 +63,7 @@ texts_one pair c (Different t j) x y file other p q least quiet (run, shows, is,
     let files : file ≡ other = stored ∙ ap (trace_text j) one ∙ sym stored2 in
     (text ∙ ap (λ (l : List ℕ). different_line c.k t j ++ l) files ∙ sym text2, λ e. files)
 
-answers_one : (pair : Pair) (c : CheckAsked) (a b : Answer) → c.least ≡ true → c.stats ≡ false → IsCheckAnswer pair c a → IsCheckAnswer pair c b → AreSame a b
+answers_one : (pair : Pair) (c : CheckAsked) (a b : Reply) → c.least ≡ true → c.stats ≡ false → IsCheckAnswer pair c a → IsCheckAnswer pair c b → AreSame a b
 answers_one pair c a b least quiet (v, is_v, status_a, text_a) (w, is_w, status_b, text_b) =
     let same : w ≡ v = one_verdict pair c.k c.depth w v is_w is_v in
     let t = texts_one pair c v a.text.items b.text.items a.file.items b.file.items a.journal b.journal least quiet text_a (subst (λ (u : Verdict). IsVerdictText pair c u b.text.items b.file.items b.journal) same text_b) in
@@ -74,14 +74,14 @@ one_answer left right c a b least quiet (p, is_p, answer_p) (q, is_q, answer_q) 
     answers_one p c a b least quiet answer_p (subst (λ (x : Pair). IsCheckAnswer x c b) (pair_same c.tied left right q p is_q is_p) answer_q)
 
 -- a depth below which nothing is decided isn't one that decides
-not_below : (pair : Pair) (c : ClimbAsked) (j k : ℕ) (a b : Answer) → IsLastTried pair c.most j a.status → IsCheckAnswer pair (check_of_climb c j) a → IsLastTried pair c.most k b.status → j < k → ⊥
+not_below : (pair : Pair) (c : ClimbAsked) (j k : ℕ) (a b : Reply) → IsLastTried pair c.most j a.status → IsCheckAnswer pair (check_of_climb c j) a → IsLastTried pair c.most k b.status → j < k → ⊥
 not_below pair c j k a b last_a (v, is_v, status_a, text_a) last_b lt =
     let (classes, unpaired, is_open) = last_b.below j last_a.some lt in
     let same : v ≡ Undecided classes unpaired = one_verdict pair j j v (Undecided classes unpaired) is_v is_open in
     let end : j ≡ c.most = last_a.ends (status_a ∙ ap status_of_verdict same) in
     omega (arith, end, lt, last_b.few)
 
-climbs_one : (pair : Pair) (c : ClimbAsked) (a b : Answer) → c.least ≡ true → IsClimbAnswer pair c a → IsClimbAnswer pair c b → AreSame a b
+climbs_one : (pair : Pair) (c : ClimbAsked) (a b : Reply) → c.least ≡ true → IsClimbAnswer pair c a → IsClimbAnswer pair c b → AreSame a b
 climbs_one pair c a b least (j, last_a, answer_a, journal_a) (k, last_b, answer_b, journal_b) =
     let up = not_below pair c j k a b last_a answer_a last_b in
     let down = not_below pair c k j b a last_b answer_b last_a in

@@ -20,7 +20,7 @@ use Rattle.sec_cli.specs.Stats.{stats_of}
 use Rattle.run_texts.specs.Lines.{equivalent_line, undecided_line, different_line, differs_line, agrees_line, demo_line}
 use Rattle.run_texts.specs.Verdicts.{status_of_verdict}
 use Rattle.sec_cli.specs.Texts.{stats_line, verified_line}
-use Rattle.sec_cli.specs.declared.ending.Answer.{Answer}
+use Rattle.sec_cli.specs.declared.ending.Reply.{Reply}
 use Rattle.command_line.specs.Asked.{CheckAsked}
 use Rattle.command_line.specs.declared.command.Demo.{Demo}
 use Rattle.demo_pair.specs.Demo.{IsDemo}
@@ -81,22 +81,22 @@ IsVerdictText pair c (Different t j) text file journal = (run : Path) × ShowsDi
 abbrev pub IsVerdictAnswer : Pair → CheckAsked → ℕ → List ℕ → List ℕ → Option Written → Type 0
 IsVerdictAnswer pair c status text file journal = (v : Verdict) × IsVerdict pair c.k c.depth v × (status ≡ status_of_verdict v) × IsVerdictText pair c v text file journal
 
-abbrev pub IsCheckAnswer : Pair → CheckAsked → Answer → Type 0
+abbrev pub IsCheckAnswer : Pair → CheckAsked → Reply → Type 0
 IsCheckAnswer pair c answer = IsVerdictAnswer pair c answer.status answer.text.items answer.file.items answer.journal
 
-abbrev pub IsReplayText : Path → Option (ℕ × ℕ) → Answer → Type 0
+abbrev pub IsReplayText : Path → Option (ℕ × ℕ) → Reply → Type 0
 IsReplayText run (Some d) answer = (answer.status ≡ 1) × (answer.text.items ≡ differs_line d.0 d.1)
 IsReplayText run None answer = (answer.status ≡ 0) × (answer.text.items ≡ agrees_line (length run.inputs))
 
 -- what a trace shows: the first difference, or that all outputs agree in all its frames
-abbrev pub IsReplayOf : Pair → Path → Answer → Type 0
+abbrev pub IsReplayOf : Pair → Path → Reply → Type 0
 IsReplayOf pair run answer = (first : Option (ℕ × ℕ)) × FirstDifference pair run first × IsReplayText run first answer
 
-abbrev pub IsReplayAnswer : Pair → List ℕ → Answer → Type 0
+abbrev pub IsReplayAnswer : Pair → List ℕ → Reply → Type 0
 IsReplayAnswer pair bytes answer = (trace : Trace) × (trace_of pair (lines_of bytes) ≡ Ok trace) × IsReplayOf pair trace.run answer
 
 -- what a certificate without a fault shows
-abbrev pub IsVerifyAnswer : Pair → List ℕ → Answer → Type 0
+abbrev pub IsVerifyAnswer : Pair → List ℕ → Reply → Type 0
 IsVerifyAnswer pair bytes answer = IsSupported pair bytes × (answer.status ≡ 0) × (answer.text.items ≡ verified_line)
 
 -- a demo is checked as two files are, with a search for a difference in the first k frames, without class lines, numbers of entries and stored files; its free latches, if any, aren't tied
@@ -104,7 +104,7 @@ abbrev pub check_of_demo : Demo → CheckAsked
 check_of_demo d = record { left = []; right = []; k = d.k; depth = d.k; workers = d.workers; classes = false; stats = false; trace = None; cert = None; tied = false; least = false }
 
 -- the line of the demo, and then the verdict of its pair
-abbrev pub IsDemoAnswer : Demo → Answer → Type 0
+abbrev pub IsDemoAnswer : Demo → Reply → Type 0
 IsDemoAnswer d answer =
     (pair : Pair) × (IsDemo d.n pair.left pair.right × (pair.tied ≡ false))
     × ((text : List ℕ) × IsVerdictAnswer pair (check_of_demo d) answer.status text answer.file.items answer.journal × (answer.text.items ≡ demo_line d.n ++ text))

@@ -6,7 +6,7 @@ use Rattle.refine_board.specs.Running.{Written}
 use Rattle.command_line.specs.Asked.{CheckAsked, ClimbAsked}
 use Rattle.split_workers.specs.Refined.{IsEarlierFor}
 use Rattle.sec_cli.specs.declared.checking.Reached.{Reached}
-use Rattle.sec_cli.specs.declared.ending.Answer.{Answer}
+use Rattle.sec_cli.specs.declared.ending.Reply.{Reply}
 use Rattle.sec_cli.specs.Answers.{IsCheckAnswer, IsJournalOf}
 
 -- the check with induction over k frames, and a search for a difference in the first k: no class lines, no numbers of entries, no stored files, no ties
@@ -34,5 +34,5 @@ IsJournalBefore pair c k None = k ≡ 1
 IsJournalBefore pair c k (Some journal) = (j : ℕ) × (0 < j) × (k ≡ j + 1) × IsJournalOf pair (check_of_climb c j) journal.entries
 
 -- the answer of the check with the last depth that is tried
-abbrev pub IsClimbAnswer : Pair → ClimbAsked → Answer → Type 0
+abbrev pub IsClimbAnswer : Pair → ClimbAsked → Reply → Type 0
 IsClimbAnswer pair c a = (k : ℕ) × IsLastTried pair c.most k a.status × IsCheckAnswer pair (check_of_climb c k) a × (a.status ≡ 1 → IsJournalBefore pair c k a.journal)

@@ -12,7 +12,7 @@ use Rattle.sec_cli.specs.Climbs.{IsClimbAnswer}
 use Rattle.sec_cli.specs.Reductions.{IsReduceAnswer}
 use Rattle.command_line.specs.Asked.{Asked, ForCheck, ForReplay, ForVerify, ForDemo, ForClimb, ForReduce, ForBatch, BatchAsked, CheckAsked, ClimbAsked, ReduceAsked}
 use Rattle.command_line.specs.declared.command.Demo.{Demo}
-use Rattle.sec_cli.specs.declared.ending.Answer.{Answer}
+use Rattle.sec_cli.specs.declared.ending.Reply.{Reply}
 use Rattle.sec_cli.specs.declared.ending.Refusal.{Refusal}
 use Rattle.sec_cli.specs.declared.ending.Refusal.TheVariants as refusals
 use Rattle.batch_run.specs.Endings.{IsBatchEnding, IsFailed, failed_of}
@@ -25,7 +25,7 @@ use Rattle.pair_files.specs.Loads.{failed_side}
 
 -- how a run ends, before anything of it is written: an answer, or a refusal
 abbrev pub Ending : Type 0
-Ending = Result Answer Refusal
+Ending = Result Reply Refusal
 
 -- no trace's or certificate's file is longer
 abbrev pub longest_third : ℕ

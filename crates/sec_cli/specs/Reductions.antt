@@ -13,7 +13,7 @@ use Rattle.net_reduce.specs.Stub.{stub_of}
 use Rattle.net_reduce.specs.Reduced.{IsReduced, tied_pair, OutputsAgree}
 use Rattle.command_line.specs.Asked.{ReduceAsked}
 use Rattle.run_texts.specs.Lines.{reduced_line}
-use Rattle.sec_cli.specs.declared.ending.Answer.{Answer}
+use Rattle.sec_cli.specs.declared.ending.Reply.{Reply}
 
 -- the netlist with its stub
 abbrev pub beside_stub : Netlist → Pair
@@ -36,11 +36,11 @@ pub record IsReductionBy (net : Netlist) (k : ℕ) (classes : Classes) (less : N
   pub agree : OutputsAgree net less
 
 -- what is printed and stored of it
-pub record IsReduceText (net : Netlist) (r : ReduceAsked) (classes : Classes) (less : Netlist) (a : Answer) : Type 0 where
+pub record IsReduceText (net : Netlist) (r : ReduceAsked) (classes : Classes) (less : Netlist) (a : Reply) : Type 0 where
   pub status : a.status ≡ 0
   pub text : a.text.items ≡ reduced_line r.k (places_of (beside_stub net)) (class_count (places_of (beside_stub net)) classes) (length less.latches) (length less.gates)
   pub file : a.file.items ≡ stored_as r.binary less
   pub journal : IsSomeAnd a.journal (λ j. IsJournalOfReduction (beside_stub net) r j.entries)
 
-abbrev pub IsReduceAnswer : Netlist → ReduceAsked → Answer → Type 0
+abbrev pub IsReduceAnswer : Netlist → ReduceAsked → Reply → Type 0
 IsReduceAnswer net r a = (classes : Classes) × (less : Netlist) × IsReductionBy net r.k classes less × IsReduceText net r classes less a

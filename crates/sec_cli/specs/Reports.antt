@@ -3,7 +3,7 @@ use Rattle.std.specs.Prelude.{◌≡◌, ◌≢◌, ℕ, ◌==◌, ◌⊎◌, if
 use Rattle.sec_base.specs.Faults.{Rose, appended, IsCutShort}
 use Rattle.aiger_codec.specs.Lines.{fault}
 use Rattle.aiger_codec.specs.declared.fault.NetKind.TheVariants as kinds
-use Rattle.sec_cli.specs.declared.ending.Answer.{Answer}
+use Rattle.sec_cli.specs.declared.ending.Reply.{Reply}
 use Rattle.sec_cli.specs.declared.ending.Refusal.{Refusal}
 use Rattle.sec_cli.specs.declared.ending.Refusal.TheVariants as refusals
 use Rattle.command_line.specs.Asked.{Asked, ForCheck, ForReplay, ForVerify, ForDemo, ForClimb, ForReduce, ForBatch}
@@ -67,13 +67,13 @@ abbrev pub IsToldIn : World → World → List ℕ → Type 0
 IsToldIn before after text = IsTold before.err before.err_faults text after.err after.err_faults
 
 -- the file of an answer was stored, where it has a name, and its text printed
-pub record IsPrinted (tells : Bool) (name : Option (List ℕ)) (a : Answer) (before after : World) : Type 0 where
+pub record IsPrinted (tells : Bool) (name : Option (List ℕ)) (a : Reply) (before after : World) : Type 0 where
   pub stored : IsStored tells before.files after.files name a.file.items
   pub printed : after.out ≡ appended before.out a.text.items
   pub quiet : after.err ≡ before.err
 
 -- it was stored, and its printing failed
-pub record IsUnprinted (tells : Bool) (name : Option (List ℕ)) (a : Answer) (before after : World) : Type 0 where
+pub record IsUnprinted (tells : Bool) (name : Option (List ℕ)) (a : Reply) (before after : World) : Type 0 where
   pub stored : IsStored tells before.files after.files name a.file.items
   pub rose : Rose before.out_faults after.out_faults
   pub cut : IsCutShort before.out a.text.items after.out
@@ -97,7 +97,7 @@ IsUnstoredAs None before after = ⊥
 IsUnstoredAs (Some name) before after = IsUnstored name before after
 
 -- what became of an answer: it was printed, or 6: storing or printing failed, or 7: there was no memory to store it
-abbrev pub IsDelivery : Bool → Option (List ℕ) → Answer → World → World → ℕ → Type 0
+abbrev pub IsDelivery : Bool → Option (List ℕ) → Reply → World → World → ℕ → Type 0
 IsDelivery tells name a before after status =
     ((status ≡ a.status) × IsPrinted tells name a before after)
     ⊎ ((status ≡ 6) × (IsUnprinted tells name a before after ⊎ IsUnstoredAs name before after))

@@ -2,7 +2,7 @@
 use Rattle.std.specs.Prelude.{◌≡◌, ℕ, ◌⊎◌, Bool, IsTrue, List, Option, None, Some, Ok, Err}
 use Rattle.sec_base.specs.Faults.{appended}
 use Rattle.refine_board.specs.Running.{Written}
-use Rattle.sec_cli.specs.declared.ending.Answer.{Answer}
+use Rattle.sec_cli.specs.declared.ending.Reply.{Reply}
 use Rattle.sec_cli.specs.declared.ending.Refusal.{Refusal}
 use Rattle.command_line.specs.Asked.{Asked, ForCheck, ForReplay, ForVerify, ForDemo, ForClimb, ForReduce, ForBatch}
 use Rattle.sec_cli.specs.Endings.{Ending, IsCheckEnding, IsReplayEnding, IsVerifyEnding, IsDemoEnding, IsClimbEnding, IsReduceEnding, IsBatchEnded, HasJournal, journal_of, left_name, right_name, third_name, failed_names}
@@ -30,7 +30,7 @@ IsJournalOfWords tells file (Some c) journal = IsJournalOfEnding tells file c jo
 
 -- the answer of the command was printed, its file stored where the command has a name for it, and its journal returned; and it is true of the files
 pub record IsAnswered (tells : Bool) (c : Asked) (status : ℕ) (journal : Option Written) (before after : World) : Type 0 where
-  pub answer : Answer
+  pub answer : Reply
   pub ended : Ended tells before.files c (Ok answer)
   pub status_is : answer.status ≡ status
   pub journal_is : answer.journal ≡ journal
@@ -72,7 +72,7 @@ pub record IsUnread (tells : Bool) (c : Asked) (names names_after : Option (List
 
 -- the answer of the command could not be stored, or not be printed; its journal is returned
 pub record IsUnwritten (tells : Bool) (c : Asked) (journal : Option Written) (before after : World) : Type 0 where
-  pub answer : Answer
+  pub answer : Reply
   pub ended : Ended tells before.files c (Ok answer)
   pub journal_is : answer.journal ≡ journal
   pub refined : HasJournal c answer.status journal

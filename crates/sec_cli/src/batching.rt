@@ -4,7 +4,7 @@ ghost use Rattle.sec_base.specs.Faults.{Rose, appended};
 ghost use Rattle.command_line.specs.Asked.{IsBatchWithin, batch_asked};
 ghost use Rattle.sec_cli.specs.Endings.{IsBatchEnded, IsLoadEnding, failed_names};
 
-use crate::ending::{Answer, Refusal};
+use crate::ending::{Reply, Refusal};
 use batch_run::{Plan, run_batch};
 use command_line::Batch;
 use sec_base::{Gate, Shelf};
@@ -19,7 +19,7 @@ pub(crate) fn batch_ending<R: Threads + Wait + Sync, S: Shelf, G: Gate>(
     shelf: &mut S,
     b: &Batch,
     gate: &G,
-) -> Result<Answer, Refusal>
+) -> Result<Reply, Refusal>
     requires { IsBatchWithin (batch_asked b.now) }
     ensures ending { IsTrue S.tells → IsBatchEnded (S.file shelf.old) (batch_asked b.now) result }
     ensures status { IfOk result (λ a. (a.status ≤ 2) ⊎ (a.status ≡ 4)) }
@@ -34,7 +34,7 @@ pub(crate) fn batch_ending<R: Threads + Wait + Sync, S: Shelf, G: Gate>(
     match run_batch(rt, alloc, shelf, b.list, &plan, gate) {
         Ok(batch) => {
             let batch_run::Batch { text, status } = batch;
-            Ok(Answer {
+            Ok(Reply {
                 status,
                 text,
                 file: Vec::new(alloc),

@@ -13,7 +13,7 @@ ghost use Rattle.sec_cli.specs.Answers.{AreClassLines, IsCertOf, IsCheckAnswer, 
 ghost use Rattle.sec_cli.specs.Climbs.{IsReached};
 
 use crate::counting::{stats_line, stats_of};
-use crate::ending::Answer;
+use crate::ending::Reply;
 use cert_writer::write_cert;
 use class_partition::Classes;
 use class_text::push_class_lines;
@@ -114,7 +114,7 @@ fn answer_by(
     classes: &Classes,
     journal: Journal,
     agreed: u32,
-) -> Result<Answer, AllocError>
+) -> Result<Reply, AllocError>
     requires sound { IsSoundPair product.now }
     requires partition { ArePartition (places_of product.now) classes.now }
     requires greatest { AreOfGreatest product.now c.now.k classes.now }
@@ -164,7 +164,7 @@ fn equivalent(
     c: &Check,
     classes: &Classes,
     journal: Journal,
-) -> Result<Answer, AllocError>
+) -> Result<Reply, AllocError>
     requires sound { IsSoundPair product.now }
     requires partition { ArePartition (places_of product.now) classes.now }
     requires greatest { AreOfGreatest product.now c.now.k classes.now }
@@ -180,7 +180,7 @@ fn equivalent(
     let mut text = Vec::from_slice(alloc, line.as_bytes())?;
     push_lines(alloc, product, c, classes, &journal, &mut text)?;
     let file = cert_of(alloc, product, c, classes)?;
-    Ok(Answer {
+    Ok(Reply {
         status: 0,
         text,
         file,
@@ -196,7 +196,7 @@ fn undecided(
     classes: &Classes,
     journal: Journal,
     outputs: &[u32],
-) -> Result<Answer, AllocError>
+) -> Result<Reply, AllocError>
     requires sound { IsSoundPair product.now }
     requires partition { ArePartition (places_of product.now) classes.now }
     requires greatest { AreOfGreatest product.now c.now.k classes.now }
@@ -213,7 +213,7 @@ fn undecided(
     push_numbers(alloc, &mut text, outputs)?;
     text.push(b'\n')?;
     push_lines(alloc, product, c, classes, &journal, &mut text)?;
-    Ok(Answer {
+    Ok(Reply {
         status: 2,
         text,
         file: Vec::new(alloc),
@@ -245,7 +245,7 @@ pub(crate) fn different(
     product: &Product,
     c: &Check,
     diff: Diff,
-) -> Result<Answer, AllocError>
+) -> Result<Reply, AllocError>
     requires shown { IsShown product.now c.now.depth diff }
     requires within { IsCheckWithin (check_asked c.now) }
     ensures answer { IfOk result (IsCheckAnswer product.now (check_asked c.now)) }
@@ -257,7 +257,7 @@ pub(crate) fn different(
     let mut text = Vec::from_slice(alloc, line.as_bytes())?;
     let trace = write_trace(alloc, product, diff.output, &diff.run)?;
     text.extend_from_slice(trace.as_slice())?;
-    Ok(Answer {
+    Ok(Reply {
         status: 1,
         text,
         file: trace,
@@ -291,7 +291,7 @@ fn concluded<'p>(
     c: &Check,
     refined: Refined<'p>,
     agreed: u32,
-) -> Result<(Answer, Version<'p>), AllocError>
+) -> Result<(Reply, Version<'p>), AllocError>
     requires sound { IsSoundPair product.now }
     requires refined { IsRefined product.now c.now.k c.now.workers refined.version refined.journal.entries }
     requires agree { AgreeBelow product.now agreed }
@@ -321,7 +321,7 @@ pub(crate) fn check_beyond<'p, R: Threads + Wait + Sync, G: Gate>(
     c: &Check,
     reached: &mut Reached<'p>,
     gate: &G,
-) -> Result<(Answer, Version<'p>), AllocError>
+) -> Result<(Reply, Version<'p>), AllocError>
     requires within { IsCheckWithin (check_asked c.now) }
     requires reached { IsReached product.now c.now.k reached.old }
     ensures answer { IfOk result (λ r. IsCheckAnswer product.entry.now (check_asked c.now) r.0) }
@@ -346,7 +346,7 @@ fn check_agreed<'p, R: Threads + Wait + Sync, G: Gate>(
     product: &'p Product,
     c: &Check,
     gate: &G,
-) -> Result<(Answer, Version<'p>), AllocError>
+) -> Result<(Reply, Version<'p>), AllocError>
     requires within { IsCheckWithin (check_asked c.now) }
     requires agree { AgreeBelow product.now 1 }
     ensures answer { IfOk result (λ r. IsCheckAnswer product.entry.now (check_asked c.now) r.0) }
@@ -363,7 +363,7 @@ pub(crate) fn check_pair<R: Threads + Wait + Sync, G: Gate>(
     product: &Product,
     c: &Check,
     gate: &G,
-) -> Result<Answer, AllocError>
+) -> Result<Reply, AllocError>
     requires { IsCheckWithin (check_asked c.now) }
     ensures answer { IfOk result (IsCheckAnswer product.now (check_asked c.now)) }
     ensures status { IfOk result (λ a. a.status ≤ 2) }

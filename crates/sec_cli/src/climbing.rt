@@ -10,7 +10,7 @@ ghost use Rattle.sec_cli.specs.Answers.{IsCheckAnswer, is_refined};
 ghost use Rattle.sec_cli.specs.Climbs.{IsClimbAnswer, IsReached, check_of_climb};
 
 use crate::checking::{Reached, check_beyond, different};
-use crate::ending::Answer;
+use crate::ending::Reply;
 use command_line::{Check, Climb};
 use induction_base::{Diff, least_difference};
 use product_machine::Product;
@@ -50,7 +50,7 @@ fn check_at<'p, R: Threads + Wait + Sync, G: Gate>(
     k: u32,
     reached: &mut Reached<'p>,
     gate: &G,
-) -> Result<(Answer, Version<'p>), AllocError>
+) -> Result<(Reply, Version<'p>), AllocError>
     requires within { IsClimbWithin (climb_asked c.now) }
     requires some { 0 < k }
     requires few { k ≤ c.now.most }
@@ -126,7 +126,7 @@ fn reach<'p>(
 }
 
 // An answer that ends the climb. With a difference comes the journal of the refinement before it.
-fn ended(answer: Answer, before: Option<Journal>) -> Answer
+fn ended(answer: Reply, before: Option<Journal>) -> Reply
     ensures status { result.status ≡ answer.status }
     ensures text { result.text.items ≡ answer.text.items }
     ensures file { result.file.items ≡ answer.file.items }
@@ -145,7 +145,7 @@ fn differs_at_once(
     product: &Product,
     c: &Climb,
     diff: Diff,
-) -> Result<Answer, AllocError>
+) -> Result<Reply, AllocError>
     requires within { IsClimbWithin (climb_asked c.now) }
     requires shown { IsShown product.now 1 diff }
     ensures answer { IfOk result (IsClimbAnswer product.now (climb_asked c.now)) }
@@ -166,7 +166,7 @@ fn try_depth<'p, R: Threads + Wait + Sync, G: Gate>(
     k: u32,
     reached: &mut Reached<'p>,
     gate: &G,
-) -> Result<Answer, AllocError>
+) -> Result<Reply, AllocError>
     requires within { IsClimbWithin (climb_asked c.now) }
     requires some { 0 < k }
     requires few { k < c.now.most }
@@ -194,7 +194,7 @@ fn climb_from<'p, R: Threads + Wait + Sync, G: Gate>(
     c: &Climb,
     reached: &mut Reached<'p>,
     gate: &G,
-) -> Result<Answer, AllocError>
+) -> Result<Reply, AllocError>
     requires within { IsClimbWithin (climb_asked c.now) }
     requires reached { IsReached product.now 1 reached.old }
     ensures answer { IfOk result (IsClimbAnswer product.now (climb_asked c.now)) }
@@ -220,7 +220,7 @@ fn climb_on<R: Threads + Wait + Sync, G: Gate>(
     product: &Product,
     c: &Climb,
     gate: &G,
-) -> Result<Answer, AllocError>
+) -> Result<Reply, AllocError>
     requires within { IsClimbWithin (climb_asked c.now) }
     requires agree { AgreeBelow product.now 1 }
     ensures answer { IfOk result (IsClimbAnswer product.now (climb_asked c.now)) }
@@ -239,7 +239,7 @@ pub(crate) fn climb_pair<R: Threads + Wait + Sync, G: Gate>(
     product: &Product,
     c: &Climb,
     gate: &G,
-) -> Result<Answer, AllocError>
+) -> Result<Reply, AllocError>
     requires { IsClimbWithin (climb_asked c.now) }
     ensures answer { IfOk result (IsClimbAnswer product.now (climb_asked c.now)) }
     ensures status { IfOk result (λ a. a.status ≤ 2) }

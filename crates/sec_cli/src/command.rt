@@ -18,12 +18,12 @@ use crate::checking::check_pair;
 use crate::climbing::climb_pair;
 use crate::delivering::deliver;
 use crate::demo::demo_answer;
-use crate::ending::{Answer, Refusal};
+use crate::ending::{Reply, Refusal};
 use crate::reducing::reduce_net;
 use crate::replaying::replay;
 use crate::telling::{refusal_status, tell_refusal};
 use crate::verifying::verify_file;
-use command_line::{Check, Climb, Command, Demo, Reduce, Unread, read_words};
+use command_line::{Check, Climb, Command, Demo, Reduce, WordsFault, read_words};
 use pair_files::{Side, load_netlist, load_pair, unread_as};
 use refine_board::Journal;
 use run_texts::tell;
@@ -55,7 +55,7 @@ fn check_files<R: Threads + Wait + Sync, S: Shelf, G: Gate>(
     right: &str,
     c: &Check,
     gate: &G,
-) -> Result<Answer, Refusal>
+) -> Result<Reply, Refusal>
     requires { IsCheckWithin (check_asked c.now) }
     ensures ending { IsTrue S.tells → IsCheckEnding (S.file shelf.old left.now) (S.file shelf.old right.now) (check_asked c.now) result }
     ensures status { IfOk result (λ a. a.status ≤ 2) }
@@ -83,7 +83,7 @@ fn replay_files<S: Shelf>(
     right: &str,
     trace: &str,
     tied: bool,
-) -> Result<Answer, Refusal>
+) -> Result<Reply, Refusal>
     ensures ending { IsTrue S.tells → IsReplayEnding tied (S.file shelf.old left.now) (S.file shelf.old right.now) (S.file shelf.old trace.now) result }
     ensures status { IfOk result (λ a. a.status ≤ 2) }
     ensures journal { IfOk result (λ a. a.journal ≡ None) }
@@ -107,7 +107,7 @@ fn verify_files<S: Shelf>(
     right: &str,
     cert: &str,
     tied: bool,
-) -> Result<Answer, Refusal>
+) -> Result<Reply, Refusal>
     ensures ending { IsTrue S.tells → IsVerifyEnding tied (S.file shelf.old left.now) (S.file shelf.old right.now) (S.file shelf.old cert.now) result }
     ensures status { IfOk result (λ a. a.status ≤ 2) }
     ensures journal { IfOk result (λ a. a.journal ≡ None) }
@@ -129,7 +129,7 @@ fn demo_ending<R: Threads + Wait + Sync, G: Gate>(
     alloc: Global,
     d: &Demo,
     gate: &G,
-) -> Result<Answer, Refusal>
+) -> Result<Reply, Refusal>
     requires { IsDemoWithin d.now }
     ensures ending { IsDemoEnding d.now result }
     ensures status { IfOk result (λ a. a.status ≤ 2) }
@@ -152,7 +152,7 @@ fn climb_files<R: Threads + Wait + Sync, S: Shelf, G: Gate>(
     right: &str,
     c: &Climb,
     gate: &G,
-) -> Result<Answer, Refusal>
+) -> Result<Reply, Refusal>
     requires { IsClimbWithin (climb_asked c.now) }
     ensures ending { IsTrue S.tells → IsClimbEnding (S.file shelf.old left.now) (S.file shelf.old right.now) (climb_asked c.now) result }
     ensures status { IfOk result (λ a. a.status ≤ 2) }
@@ -180,7 +180,7 @@ fn reduce_file<R: Threads + Wait + Sync, S: Shelf, G: Gate>(
     name: &str,
     r: &Reduce,
     gate: &G,
-) -> Result<Answer, Refusal>
+) -> Result<Reply, Refusal>
     requires { IsReduceWithin (reduce_asked r.now) }
     ensures ending { IsTrue S.tells → IsReduceEnding (S.file shelf.old name.now) (reduce_asked r.now) result }
     ensures status { IfOk result (λ a. a.status ≤ 2) }
@@ -207,7 +207,7 @@ fn decide<R: Threads + Wait + Sync, S: Shelf, G: Gate>(
     shelf: &mut S,
     command: Command,
     gate: &G,
-) -> Result<Answer, Refusal>
+) -> Result<Reply, Refusal>
     requires { IsWithin (asked_of command) }
     ensures ending { Ended S.tells (S.file shelf.old) (asked_of command.entry) result }
     ensures status { IfOk result (λ a. IsAnswerStatus (asked_of command.entry) a.status) }
@@ -291,7 +291,7 @@ fn perform<R: Threads + Wait + Sync, S: Shelf, O: Sink, E: Sink, G: Gate>(
     match decide(rt, alloc, shelf, command, gate) {
         Ok(answer) => {
             let status = deliver(command, &answer, shelf, out, err);
-            let Answer { journal, .. } = answer;
+            let Reply { journal, .. } = answer;
             Report { status, journal }
         }
         Err(refusal) => {
@@ -376,14 +376,14 @@ pub fn run<R: Threads + Wait + Sync, S: Shelf, O: Sink, E: Sink, G: Gate>(
 {
     match read_words(alloc, words) {
         Ok(command) => perform(rt, alloc, command, shelf, out, err, gate),
-        Err(Unread::NotACommand) => {
+        Err(WordsFault::NotACommand) => {
             tell(err, USAGE.as_bytes());
             Report {
                 status: 3,
                 journal: None,
             }
         }
-        Err(Unread::Memory) => {
+        Err(WordsFault::Memory) => {
             tell(err, b"sec: out of memory\n");
             Report {
                 status: 7,

@@ -6,7 +6,7 @@ ghost use Rattle.run_texts.specs.Texts.{write_failed_text};
 ghost use Rattle.run_texts.specs.Told.{IsTold};
 ghost use Rattle.sec_cli.specs.Reports.{IsDelivery, store_name};
 
-use crate::ending::Answer;
+use crate::ending::Reply;
 use command_line::Command;
 use run_texts::{tell, tell_unstored};
 use sec_base::{Failed, Shelf, Sink, StoreFault, write_text};
@@ -30,7 +30,7 @@ fn print<O: Sink, E: Sink>(text: &[u8], status: u8, out: &mut O, err: &mut E) ->
 
 // Stores the file of an answer under a name, and prints the text.
 fn store_and_print<S: Shelf, O: Sink, E: Sink>(
-    answer: &Answer,
+    answer: &Reply,
     name: &str,
     shelf: &mut S,
     out: &mut O,
@@ -84,7 +84,7 @@ fn store_name<'w>(command: Command<'w>, status: u8) -> Option<&'w str>
 /// Stores the file of an answer, where the command has a name for it, and prints the text. Answers the status of the run.
 pub(crate) fn deliver<S: Shelf, O: Sink, E: Sink>(
     command: Command,
-    answer: &Answer,
+    answer: &Reply,
     shelf: &mut S,
     out: &mut O,
     err: &mut E,

@@ -7,7 +7,7 @@ ghost use Rattle.command_line.specs.Asked.{IsDemoWithin, check_asked};
 ghost use Rattle.sec_cli.specs.Answers.{IsDemoAnswer, check_of_demo, is_refined};
 
 use crate::checking::check_pair;
-use crate::ending::Answer;
+use crate::ending::Reply;
 use command_line::{Check, Demo};
 use demo_pair::make_demo;
 use product_machine::Product;
@@ -66,7 +66,7 @@ fn demo_on<R: Threads + Wait + Sync, G: Gate>(
     product: &Product,
     d: &Demo,
     gate: &G,
-) -> Result<Answer, AllocError>
+) -> Result<Reply, AllocError>
     requires within { IsDemoWithin d.now }
     requires demo { IsDemo d.now.n product.now.left product.now.right × (product.now.tied ≡ false) }
     ensures answer { IfOk result (IsDemoAnswer d.now) }
@@ -84,7 +84,7 @@ pub(crate) fn demo_answer<R: Threads + Wait + Sync, G: Gate>(
     alloc: Global,
     d: &Demo,
     gate: &G,
-) -> Result<Answer, AllocError>
+) -> Result<Reply, AllocError>
     requires { IsDemoWithin d.now }
     ensures answer { IfOk result (IsDemoAnswer d.now) }
     ensures status { IfOk result (λ a. a.status ≤ 2) }

@@ -7,7 +7,7 @@ use trace_witness::TraceFault;
 
 /// What a command answers.
 #[derive(Drop)]
-pub struct Answer {
+pub struct Reply {
     pub status: u8,
     /// The text that is printed.
     pub text: Vec<u8>,

@@ -15,5 +15,5 @@ mod telling;
 mod verifying;
 
 pub use command::{Report, run};
-pub use ending::{Answer, Refusal};
+pub use ending::{Reply, Refusal};
 pub use pair_files::{Side, Unpaired};

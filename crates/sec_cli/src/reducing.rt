@@ -6,7 +6,7 @@ ghost use Rattle.command_line.specs.Asked.{reduce_asked, IsReduceWithin};
 ghost use Rattle.run_texts.specs.Lines.{reduced_line};
 ghost use Rattle.sec_cli.specs.Reductions.{IsJournalOfReduction, IsReduceAnswer, beside_stub, stored_as};
 
-use crate::ending::Answer;
+use crate::ending::Reply;
 use aig_graph::Netlist;
 use aiger_codec::{write_binary_net, write_text_net};
 use class_partition::Classes;
@@ -74,7 +74,7 @@ fn answer_by(
     r: &Reduce,
     classes: &Classes,
     journal: Journal,
-) -> Result<Answer, AllocError>
+) -> Result<Reply, AllocError>
     requires stub { product.now ≡ beside_stub product.now.left }
     requires partition { ArePartition (places_of product.now) classes.now }
     requires greatest { AreOfGreatest product.now r.now.k classes.now }
@@ -86,7 +86,7 @@ fn answer_by(
     let less = reduce(alloc, product, r.k, classes)?;
     let text = text_of(alloc, product, r, classes, &less)?;
     let file = file_of(alloc, &less, r.binary)?;
-    Ok(Answer {
+    Ok(Reply {
         status: 0,
         text,
         file,
@@ -101,7 +101,7 @@ fn reduce_pair<R: Threads + Wait + Sync, G: Gate>(
     product: &Product,
     r: &Reduce,
     gate: &G,
-) -> Result<Answer, AllocError>
+) -> Result<Reply, AllocError>
     requires stub { product.now ≡ beside_stub product.now.left }
     requires within { IsReduceWithin (reduce_asked r.now) }
     ensures answer { IfOk result (IsReduceAnswer product.now.left (reduce_asked r.now)) }
@@ -123,7 +123,7 @@ pub(crate) fn reduce_net<R: Threads + Wait + Sync, G: Gate>(
     net: Netlist,
     r: &Reduce,
     gate: &G,
-) -> Result<Answer, AllocError>
+) -> Result<Reply, AllocError>
     requires { IsReduceWithin (reduce_asked r.now) }
     ensures answer { IfOk result (IsReduceAnswer net (reduce_asked r.now)) }
     ensures status { IfOk result (λ a. a.status ≤ 2) }

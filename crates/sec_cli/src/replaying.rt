@@ -5,7 +5,7 @@ ghost use Rattle.circ_model.specs.Meaning.{IsRun};
 ghost use Rattle.sec_cli.specs.Answers.{IsReplayOf};
 ghost use Rattle.sec_cli.specs.Endings.{IsReplayed, IsReplayedAs, IsOfPair, IsLoadEnding, failed_third};
 
-use crate::ending::{Answer, Refusal};
+use crate::ending::{Reply, Refusal};
 use product_machine::{Path, Product, Scratch};
 use run_texts::{agrees_line, differs_line};
 use sec_base::{LoadFault, Shelf};
@@ -15,7 +15,7 @@ use trace_witness::{TraceError, first_difference, read_trace};
 const LONGEST_THIRD: u64 = 1099511627776;
 
 // What a run shows.
-fn answer_of(alloc: Global, product: &Product, run: &Path) -> Result<Answer, AllocError>
+fn answer_of(alloc: Global, product: &Product, run: &Path) -> Result<Reply, AllocError>
     requires run { IsRun product.now run.now }
     ensures replay { IfOk result (IsReplayOf product.now run.now) }
     ensures status { IfOk result (λ a. a.status ≤ 2) }
@@ -27,7 +27,7 @@ fn answer_of(alloc: Global, product: &Product, run: &Path) -> Result<Answer, All
         None => (0, agrees_line(alloc, run.inputs.len())?),
     };
     let text = Vec::from_slice(alloc, line.as_bytes())?;
-    Ok(Answer {
+    Ok(Reply {
         status,
         text,
         file: Vec::new(alloc),
@@ -36,7 +36,7 @@ fn answer_of(alloc: Global, product: &Product, run: &Path) -> Result<Answer, All
 }
 
 // What the bytes of a trace show.
-fn replay_bytes(alloc: Global, product: &Product, bytes: &[u8]) -> Result<Answer, Refusal>
+fn replay_bytes(alloc: Global, product: &Product, bytes: &[u8]) -> Result<Reply, Refusal>
     requires { length bytes.now ≤ 1099511627776 }
     ensures replayed { IsReplayedAs product.now bytes.now result }
     ensures status { IfOk result (λ a. a.status ≤ 2) }
@@ -60,7 +60,7 @@ pub(crate) fn replay<S: Shelf>(
     shelf: &mut S,
     product: &Product,
     name: &str,
-) -> Result<Answer, Refusal>
+) -> Result<Reply, Refusal>
     ensures replayed { IsTrue S.tells → IsReplayed product.now (S.file shelf.old name.now) result }
     ensures status { IfOk result (λ a. a.status ≤ 2) }
     ensures journal { IfOk result (λ a. a.journal ≡ None) }

@@ -4,7 +4,7 @@ ghost use Rattle.sec_base.specs.Faults.{Rose, appended};
 ghost use Rattle.sec_cli.specs.Texts.{verified_line};
 ghost use Rattle.sec_cli.specs.Endings.{IsVerified, IsVerifiedAs, IsOfPair, IsLoadEnding, failed_third};
 
-use crate::ending::{Answer, Refusal};
+use crate::ending::{Reply, Refusal};
 use corr_certificate::{Checked, verify};
 use product_machine::Product;
 use sec_base::{LoadFault, Shelf};
@@ -13,11 +13,11 @@ use std::alloc::{AllocError, Global};
 const LONGEST_THIRD: u64 = 1099511627776;
 
 // The answer where there is no fault.
-fn verified(alloc: Global) -> Result<Answer, AllocError>
+fn verified(alloc: Global) -> Result<Reply, AllocError>
     ensures { IfOk result (λ a. (a.status ≡ 0) × (a.text.items ≡ verified_line) × (a.journal ≡ None)) }
 {
     let text = Vec::from_slice(alloc, b"verified\n".as_slice())?;
-    Ok(Answer {
+    Ok(Reply {
         status: 0,
         text,
         file: Vec::new(alloc),
@@ -26,7 +26,7 @@ fn verified(alloc: Global) -> Result<Answer, AllocError>
 }
 
 // What the bytes of a certificate show.
-fn verify_bytes(alloc: Global, product: &Product, bytes: &[u8]) -> Result<Answer, Refusal>
+fn verify_bytes(alloc: Global, product: &Product, bytes: &[u8]) -> Result<Reply, Refusal>
     ensures verified { IsVerifiedAs product.now bytes.now result }
     ensures status { IfOk result (λ a. a.status ≤ 2) }
     ensures journal { IfOk result (λ a. a.journal ≡ None) }
@@ -49,7 +49,7 @@ pub(crate) fn verify_file<S: Shelf>(
     shelf: &mut S,
     product: &Product,
     name: &str,
-) -> Result<Answer, Refusal>
+) -> Result<Reply, Refusal>
     ensures verified { IsTrue S.tells → IsVerified product.now (S.file shelf.old name.now) result }
     ensures status { IfOk result (λ a. a.status ≤ 2) }
     ensures journal { IfOk result (λ a. a.journal ≡ None) }

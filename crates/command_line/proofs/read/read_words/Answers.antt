@@ -1,7 +1,7 @@
 use Rattle.std.proofs.Common.{◌≡◌, ℕ, List, Option, Some, None, subst, sym}
 use Rattle.std.specs.Result.{MatchResult}
 use Rattle.std.proofs.lemmas.Result.{IfErr-weaker}
-use Rattle.command_line.specs.declared.command.Unread.TheVariants.{NotACommand}
+use Rattle.command_line.specs.declared.command.WordsFault.TheVariants.{NotACommand}
 use Rattle.command_line.specs.Asked.{Asked, asked_of}
 use Rattle.command_line.specs.Plain.{texts}
 use Rattle.command_line.proofs.PlainTaken.{plain_agrees, plain_is_taken, refused_is_not_plain, meant_is_taken}
