@@ -5,6 +5,10 @@ use Rattle.aiger_codec.specs.declared.fault.NetKind.TheVariants as kinds
 use Rattle.pair_files.specs.declared.fault.Side.{Side}
 use Rattle.pair_files.specs.declared.fault.Unpaired.TheVariants as unpaired
 use Rattle.pair_files.specs.Pairs.{IsLoadFailed, IsNoPair}
+use Rattle.sec_base.specs.declared.fault.LoadFault.{LoadFault}
+use Rattle.sec_base.specs.declared.fault.LoadFault.TheVariants as loads
+use Rattle.pair_list.specs.declared.fault.ListError.{ListError}
+use Rattle.pair_list.specs.declared.fault.ListError.TheVariants as errors
 use Rattle.pair_list.specs.KindNames.{name_of}
 use Rattle.pair_list.specs.Readings.{Reads}
 use Rattle.run_texts.specs.Texts.{fault_text, line_fault_text, memory_text, read_failed_text}
@@ -63,6 +67,17 @@ IsListRead (Err (unanswered.FileFailed names side)) = Unit {0}
 IsListRead (Err (unanswered.ListRefused f)) = Unit {0}
 IsListRead (Err unanswered.ListFailed) = ⊥
 IsListRead (Err unanswered.ListTooLong) = ⊥
+
+-- why a batch answers nothing whose list wasn't loaded
+abbrev pub unanswered_by : LoadFault → Unanswered
+unanswered_by loads.Failed = unanswered.ListFailed
+unanswered_by loads.TooLong = unanswered.ListTooLong
+unanswered_by loads.Memory = unanswered.Memory
+
+-- and whose list wasn't read
+abbrev pub unanswered_of : ListError → Unanswered
+unanswered_of (errors.Refused f) = unanswered.ListRefused f
+unanswered_of errors.Memory = unanswered.Memory
 
 -- a load failed
 abbrev pub IsFailed : Unanswered → Type 0

@@ -10,9 +10,9 @@ use crate::ending::Unanswered;
 use crate::loading::{Pairs, Stop, load_all};
 use crate::plan::Plan;
 use pair_files::Unpaired;
-use pair_list::{ListError, Names, read_list};
+use pair_list::{Names, read_list};
 use pair_pool::run_pairs;
-use sec_base::{Gate, LoadFault, Shelf};
+use sec_base::{Gate, Shelf};
 use std::alloc::{AllocError, Global};
 use std::sync::Wait;
 use std::thread::Threads;
@@ -87,10 +87,7 @@ fn run_list<R: Threads + Wait + Sync, S: Shelf, G: Gate>(
     ensures store_count { S.store_faults shelf.new ≡ S.store_faults shelf.old }
 {
     match load_all(alloc, shelf, list.as_slice()) {
-        Ok(pairs) => match answer_all(rt, alloc, list.as_slice(), &pairs, plan, gate) {
-            Ok(batch) => Ok(batch),
-            Err(_) => Err(Unanswered::Memory),
-        },
+        Ok(pairs) => Ok(answer_all(rt, alloc, list.as_slice(), &pairs, plan, gate)?),
         Err(stop) => Err(unanswered_at(list, stop)),
     }
 }
@@ -113,11 +110,8 @@ fn run_bytes<R: Threads + Wait + Sync, S: Shelf, G: Gate>(
     ensures load_count { S.load_faults shelf.old ≤ S.load_faults shelf.new }
     ensures store_count { S.store_faults shelf.new ≡ S.store_faults shelf.old }
 {
-    match read_list(alloc, bytes) {
-        Ok(list) => run_list(rt, alloc, shelf, list, plan, gate),
-        Err(ListError::Refused(fault)) => Err(Unanswered::ListRefused(fault)),
-        Err(ListError::Memory) => Err(Unanswered::Memory),
-    }
+    let list = read_list(alloc, bytes)?;
+    run_list(rt, alloc, shelf, list, plan, gate)
 }
 
 /// The batch of the list in a file: all files of its pairs are loaded and read in the list's order, and then the pairs are settled as
@@ -140,10 +134,6 @@ pub fn run_batch<R: Threads + Wait + Sync, S: Shelf, G: Gate>(
     ensures store_count { S.store_faults shelf.new ≡ S.store_faults shelf.old }
 {
     let mut bytes = Vec::new(alloc);
-    match shelf.load(list, LONGEST_LIST, &mut bytes) {
-        Ok(()) => run_bytes(rt, alloc, shelf, bytes.as_slice(), plan, gate),
-        Err(LoadFault::TooLong) => Err(Unanswered::ListTooLong),
-        Err(LoadFault::Failed) => Err(Unanswered::ListFailed),
-        Err(LoadFault::Memory) => Err(Unanswered::Memory),
-    }
+    shelf.load(list, LONGEST_LIST, &mut bytes)?;
+    run_bytes(rt, alloc, shelf, bytes.as_slice(), plan, gate)
 }

@@ -57,10 +57,8 @@ fn load_one<S: Shelf>(
     match load_pair(alloc, shelf, names.left(), names.right(), false) {
         Ok(product) => {
             let at = products.len();
-            match products.push(product) {
-                Ok(()) => Ok(Loaded::Product(at)),
-                Err(_) => Err(Unpaired::Memory),
-            }
+            products.push(product)?;
+            Ok(Loaded::Product(at))
         }
         Err(unpaired) => {
             if unpaired_status(unpaired) == 4 {
