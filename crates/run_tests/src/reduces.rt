@@ -1,5 +1,5 @@
 //! Runs of `reduce`: what is stored, what is printed, and what is refused.
-use crate::runs::{RING, Sinks, TOGGLE, answers_so, answers_without, case, leaves, leaves_past};
+use crate::runs::{RING, TOGGLE, answers_so, answers_without, case, leaves, leaves_unprinted};
 use std::test::Fail;
 
 // Three latches: one toggles from 0, one from 1, and one stays low.
@@ -55,16 +55,6 @@ fn a_netlist_that_is_not_reduced_leaves_the_files(rt: HostRuntime) -> Result<(),
     let unstored = case(words, TOGGLE, "", 6, "", "sec: made: write failed\n");
     assert!(rt; answers_without(&rt, alloc, &unstored, 1)?);
     let unwritten = case(words, TOGGLE, "", 6, "", "sec: output: write failed\n");
-    let mut sinks = Sinks::new(alloc, 400, vec![in alloc; 0]?, Vec::new(alloc))?;
-    assert!(rt;
-        leaves_past(
-            &rt,
-            alloc,
-            &unwritten,
-            &mut sinks,
-            "made",
-            Some(TOGGLE.as_bytes())
-        )?
-    );
+    assert!(rt; leaves_unprinted(&rt, alloc, &unwritten, "made", TOGGLE.as_bytes())?);
     Ok(())
 }

@@ -108,7 +108,7 @@ pub(crate) fn run_words<R: Threads + Wait + Sync, G: Gate>(
 }
 
 // Whether a run over these devices ends as the row has it.
-fn ends_so<R: Threads + Wait + Sync, G: Gate>(
+pub(crate) fn ends_so<R: Threads + Wait + Sync, G: Gate>(
     rt: &R,
     alloc: Global,
     row: &Row,
@@ -153,7 +153,7 @@ pub(crate) fn answers_without<R: Threads + Wait + Sync>(
 }
 
 // Whether a run into these sinks ends as the row has it and leaves this file, or none, under a name.
-pub(crate) fn leaves_past<R: Threads + Wait + Sync>(
+fn leaves_past<R: Threads + Wait + Sync>(
     rt: &R,
     alloc: Global,
     row: &Row,
@@ -176,6 +176,18 @@ pub(crate) fn leaves<R: Threads + Wait + Sync>(
 ) -> Result<bool, AllocError> {
     let mut sinks = Sinks::new(alloc, 400, Vec::new(alloc), Vec::new(alloc))?;
     leaves_past(rt, alloc, row, &mut sinks, name, file)
+}
+
+// Whether a run past an output that fails at once ends as the row has it and leaves these bytes under the name.
+pub(crate) fn leaves_unprinted<R: Threads + Wait + Sync>(
+    rt: &R,
+    alloc: Global,
+    row: &Row,
+    name: &str,
+    file: &[u8],
+) -> Result<bool, AllocError> {
+    let mut sinks = Sinks::new(alloc, 400, vec![in alloc; 0]?, Vec::new(alloc))?;
+    leaves_past(rt, alloc, row, &mut sinks, name, Some(file))
 }
 
 // The words of the first row that a run doesn't end as it has it.
@@ -649,17 +661,7 @@ fn a_trace_is_stored_before_it_is_printed(rt: HostRuntime) -> Result<(), Fail> {
     let made = case(words, TOGGLE, LOW, 1, text, "");
     assert!(rt; leaves(&rt, alloc, &made, "made", Some(STORED.as_bytes()))?);
     let unwritten = case(words, TOGGLE, LOW, 6, "", "sec: output: write failed\n");
-    let mut sinks = Sinks::new(alloc, 400, vec![in alloc; 0]?, Vec::new(alloc))?;
-    assert!(rt;
-        leaves_past(
-            &rt,
-            alloc,
-            &unwritten,
-            &mut sinks,
-            "made",
-            Some(STORED.as_bytes())
-        )?
-    );
+    assert!(rt; leaves_unprinted(&rt, alloc, &unwritten, "made", STORED.as_bytes())?);
     let unstored = case(words, TOGGLE, LOW, 6, "", "sec: made: write failed\n");
     assert!(rt; answers_without(&rt, alloc, &unstored, 2)?);
     let unread = case(words, TOGGLE, LOW, 5, "", "sec: left: read failed\n");
