@@ -1,6 +1,7 @@
 -- What the words of a run ask for: a command, with its names as texts.
 use Rattle.std.specs.Prelude.{◌<◌, ◌≤◌, ℕ, Bool, List, Option, Some, None, codes, max, option_map}
 use Rattle.command_line.specs.declared.command.Check.{Check}
+use Rattle.command_line.specs.declared.command.CheckOptions.{CheckOptions}
 use Rattle.command_line.specs.declared.command.Replay.{Replay}
 use Rattle.command_line.specs.declared.command.Verify.{Verify}
 use Rattle.command_line.specs.declared.command.Demo.{Demo}
@@ -10,9 +11,8 @@ use Rattle.command_line.specs.declared.command.Batch.{Batch}
 use Rattle.command_line.specs.declared.command.Command.{Command}
 use Rattle.command_line.specs.declared.command.Command.TheVariants as commands
 
-pub record CheckAsked : Type 0 where
-  pub left : List ℕ
-  pub right : List ℕ
+-- the options of `check`
+pub record OptionsAsked : Type 0 where
   pub k : ℕ
   pub depth : ℕ
   pub workers : ℕ
@@ -22,6 +22,11 @@ pub record CheckAsked : Type 0 where
   pub cert : Option (List ℕ)
   pub tied : Bool
   pub least : Bool
+
+pub record CheckAsked : Type 0 where
+  pub left : List ℕ
+  pub right : List ℕ
+  pub options : OptionsAsked
 
 pub record ReplayAsked : Type 0 where
   pub left : List ℕ
@@ -63,8 +68,11 @@ pub data Asked : Type 0 where
   ForReduce : ReduceAsked → Asked
   ForBatch : BatchAsked → Asked
 
+abbrev pub options_asked : CheckOptions → OptionsAsked
+options_asked c = record { k = c.k; depth = c.depth; workers = c.workers; classes = c.classes; stats = c.stats; trace = option_map (λ n. n.now) c.trace; cert = option_map (λ n. n.now) c.cert; tied = c.tied; least = c.least }
+
 abbrev pub check_asked : Check → CheckAsked
-check_asked c = record { left = c.left.now; right = c.right.now; k = c.k; depth = c.depth; workers = c.workers; classes = c.classes; stats = c.stats; trace = option_map (λ n. n.now) c.trace; cert = option_map (λ n. n.now) c.cert; tied = c.tied; least = c.least }
+check_asked c = record { left = c.left.now; right = c.right.now; options = options_asked c.options }
 
 abbrev pub replay_asked : Replay → ReplayAsked
 replay_asked c = record { left = c.left.now; right = c.right.now; trace = c.trace.now; tied = c.tied }
@@ -105,7 +113,7 @@ abbrev pub most_size : ℕ
 most_size = 100000
 
 -- the depths and the workers of `check` are within their limits
-pub record IsCheckWithin (c : CheckAsked) : Type 0 where
+pub record IsCheckWithin (c : OptionsAsked) : Type 0 where
   pub some : 0 < c.k
   pub few : c.k ≤ most_depth
   pub no_less : c.k ≤ c.depth
@@ -139,7 +147,7 @@ pub record IsBatchWithin (b : BatchAsked) : Type 0 where
 
 -- the numbers that are asked for are within their limits
 abbrev pub IsWithin : Asked → Type 0
-IsWithin (ForCheck c) = IsCheckWithin c
+IsWithin (ForCheck c) = IsCheckWithin c.options
 IsWithin (ForReplay c) = Unit {0}
 IsWithin (ForVerify c) = Unit {0}
 IsWithin (ForDemo d) = IsDemoWithin d
@@ -171,15 +179,17 @@ abbrev pub check_of : Values → Option Asked
 check_of v = check_from (v.text (codes "LEFT")) (v.text (codes "RIGHT")) (v.number (codes "k") most_depth) (v.number (codes "j") most_workers) (λ left right k workers. record {
   left = left;
   right = right;
-  k = k;
-  depth = depth_from k (v.optional (codes "d") most_search_depth);
-  workers = workers;
-  classes = v.flag (codes "classes");
-  stats = v.flag (codes "stats");
-  trace = v.text (codes "trace");
-  cert = v.text (codes "cert");
-  tied = v.flag (codes "tie");
-  least = v.flag (codes "least");
+  options = record {
+    k = k;
+    depth = depth_from k (v.optional (codes "d") most_search_depth);
+    workers = workers;
+    classes = v.flag (codes "classes");
+    stats = v.flag (codes "stats");
+    trace = v.text (codes "trace");
+    cert = v.text (codes "cert");
+    tied = v.flag (codes "tie");
+    least = v.flag (codes "least");
+  };
 })
 
 abbrev pub replay_from : Option (List ℕ) → Option (List ℕ) → Option (List ℕ) → Bool → Option Asked

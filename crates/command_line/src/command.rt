@@ -14,6 +14,12 @@ pub(crate) const MOST_SIZE: u32 = 100_000;
 pub struct Check<'w> {
     pub left: &'w str,
     pub right: &'w str,
+    pub options: CheckOptions<'w>,
+}
+
+/// The options of `check`.
+#[derive(Clone, Copy, Debug, PartialEq, Eq)]
+pub struct CheckOptions<'w> {
     /// The depth of the induction.
     pub k: u32,
     /// In how many frames a difference is looked for: no fewer than k.

@@ -6,5 +6,7 @@ mod command;
 mod read;
 mod taken;
 
-pub use command::{Batch, Check, Climb, Command, Demo, Reduce, Replay, Verify, WordsFault};
+pub use command::{
+    Batch, Check, CheckOptions, Climb, Command, Demo, Reduce, Replay, Verify, WordsFault,
+};
 pub use read::read_words;

@@ -1,14 +1,14 @@
 // The words as clap takes them: what its matches say becomes the command.
 ghost use Rattle.std.specs.Prelude.{◌≡◌, ◌≤◌, List, IfErr, IfOk, IfSome, MatchResult, None, Some, false, option_map, true};
 ghost use Rattle.clap.specs.Words.{Row, first_of, found_of, rows_of, subcommand_rows_of};
-ghost use Rattle.command_line.specs.Asked.{ForBatch, ForCheck, ForClimb, ForDemo, ForReduce, ForReplay, ForVerify, IsBatchWithin, IsCheckWithin, IsClimbWithin, IsDemoWithin, IsReduceWithin, asked_of, batch_asked, check_asked, climb_asked, reduce_asked, replay_asked, verify_asked, IsWithin, batch_of, check_of, climb_of, depth_from, demo_of, most_from, reduce_of, replay_of, verify_of};
+ghost use Rattle.command_line.specs.Asked.{ForBatch, ForCheck, ForClimb, ForDemo, ForReduce, ForReplay, ForVerify, IsBatchWithin, IsCheckWithin, IsClimbWithin, IsDemoWithin, IsReduceWithin, asked_of, batch_asked, check_asked, climb_asked, options_asked, reduce_asked, replay_asked, verify_asked, IsWithin, batch_of, check_of, climb_of, depth_from, demo_of, most_from, reduce_of, replay_of, verify_of};
 ghost use Rattle.command_line.specs.Meant.{number_of, has_flag, values_matched, asked_under, asked_where_named, matched, is_taken, taken_command};
 ghost use Rattle.command_line.specs.Plain.{texts};
 
 use crate::app::{Subcommand, sec_command};
 use crate::command::{
-    Batch, Check, Climb, Command, Demo, MOST_DEPTH, MOST_SEARCH_DEPTH, MOST_SIZE, MOST_WORKERS,
-    Reduce, Replay, Verify, WordsFault,
+    Batch, Check, CheckOptions, Climb, Command, Demo, MOST_DEPTH, MOST_SEARCH_DEPTH, MOST_SIZE,
+    MOST_WORKERS, Reduce, Replay, Verify, WordsFault,
 };
 use clap::ArgMatches;
 use clap::error::ErrorKind;
@@ -56,16 +56,14 @@ fn depth_from(k: u32, asked: Option<u32>) -> u32
 
 fn check_of<'w>(found: &ArgMatches<'w>) -> Option<Check<'w>>
     ensures command { option_map (λ c. ForCheck (check_asked c)) result ≡ check_of (values_matched (rows_of (found_of found.now))) }
-    ensures within { IfSome result (λ c. IsCheckWithin (check_asked c)) }
+    ensures within { IfSome result (λ c. IsCheckWithin (options_asked c.options)) }
 {
     let left = text_of(found, "LEFT")?;
     let right = text_of(found, "RIGHT")?;
     let k = number_of(found, "k", 1, MOST_DEPTH)?;
     let depth = depth_from(k, number_of(found, "d", 1, MOST_SEARCH_DEPTH));
     let workers = number_of(found, "j", 1, MOST_WORKERS)?;
-    Some(Check {
-        left,
-        right,
+    let options = CheckOptions {
         k,
         depth,
         workers,
@@ -75,6 +73,11 @@ fn check_of<'w>(found: &ArgMatches<'w>) -> Option<Check<'w>>
         cert: text_of(found, "cert"),
         tied: has_flag(found, "tie"),
         least: has_flag(found, "least"),
+    };
+    Some(Check {
+        left,
+        right,
+        options,
     })
 }
 
@@ -221,7 +224,10 @@ fn matched<'w>(matches: &ArgMatches<'w>) -> Option<Command<'w>>
 }
 
 /// The command that clap reads of the words, where it takes them: then there always is one.
-pub(crate) fn taken_command<'w>(alloc: Global, words: &'w [String]) -> Result<Command<'w>, WordsFault>
+pub(crate) fn taken_command<'w>(
+    alloc: Global,
+    words: &'w [String],
+) -> Result<Command<'w>, WordsFault>
     ensures read { MatchResult result (λ c. taken_command (texts words.now) ≡ Some (asked_of c)) (λ e. e ≡ WordsFault.NotACommand → taken_command (texts words.now) ≡ None) }
     ensures refused { IfErr result (λ e. e ≡ WordsFault.NotACommand → is_taken (texts words.now) ≡ false) }
     ensures taken { is_taken (texts words.now) ≡ true → IfErr result (λ e. e ≡ WordsFault.Memory) }

@@ -17,7 +17,7 @@ fn tied(is_tied: bool) -> &'static str {
 }
 
 // The depth of the search, where it is not that of the induction.
-fn deeper(alloc: Global, c: &Check) -> Result<String, AllocError> {
+fn deeper(alloc: Global, c: &CheckOptions) -> Result<String, AllocError> {
     let depth = c.depth;
     if depth == c.k {
         return format!(in alloc; "");
@@ -30,14 +30,15 @@ fn said(alloc: Global, text: &str) -> Result<String, AllocError> {
     let words = words_of(alloc, text)?;
     match read_words(alloc, words.as_slice()) {
         Ok(Command::Check(c)) => {
-            let classes = if c.classes { " classes" } else { "" };
-            let stats = if c.stats { " stats" } else { "" };
-            let trace = named(alloc, "trace", c.trace)?;
-            let cert = named(alloc, "cert", c.cert)?;
-            let deeper = deeper(alloc, &c)?;
-            let tied = tied(c.tied);
-            let least = if c.least { " least" } else { "" };
-            let (left, right, k, workers) = (c.left, c.right, c.k, c.workers);
+            let o = c.options;
+            let classes = if o.classes { " classes" } else { "" };
+            let stats = if o.stats { " stats" } else { "" };
+            let trace = named(alloc, "trace", o.trace)?;
+            let cert = named(alloc, "cert", o.cert)?;
+            let deeper = deeper(alloc, &o)?;
+            let tied = tied(o.tied);
+            let least = if o.least { " least" } else { "" };
+            let (left, right, k, workers) = (c.left, c.right, o.k, o.workers);
             format!(in alloc;
                 "check <{left}> <{right}> k={k}{deeper} j={workers}{classes}{stats}{trace}{cert}{tied}{least}"
             )

@@ -15,10 +15,10 @@ use Rattle.sec_cli.specs.declared.ending.Refusal.TheVariants as refusals
 use Rattle.command_line.specs.Asked.{Asked, ForCheck, ForReplay, ForVerify, ForDemo, ForClimb, ForReduce, ForBatch}
 use Rattle.pair_files.specs.Pairs.{IsLoadFailed}
 use Rattle.pair_files.specs.Loads.{failed_side}
-use Rattle.sec_cli.specs.Endings.{Ending, IsAnswerStatus, IsLoadEnding, HasJournal, journal_of, failed_names, left_name, right_name, third_name}
+use Rattle.sec_cli.specs.Endings.{Ending, IsAnswerStatus, IsLoadEnding, IsOfPair, HasJournal, journal_of, failed_names, failed_third, left_name, right_name, third_name}
 use Rattle.run_texts.specs.Texts.{memory_text}
 use Rattle.run_texts.specs.Told.{unpaired_status, unpaired_text}
-use Rattle.sec_cli.specs.Reports.{World, IsPrinted, IsReport, IsStored, IsToldIn, refusal_status, refusal_text, store_name}
+use Rattle.sec_cli.specs.Reports.{World, IsPrinted, IsReport, IsStored, IsToldIn, refusal_status, refusal_text, store_name, world_of}
 use Rattle.sec_cli.specs.Runs.{Ended, IsAnswered, IsBatchCommand, IsJournalOfWords, IsRefusedOrBatch, IsUnread, IsUnwritten}
 
 -- refusals have the statuses 4, 5 and 7
@@ -119,6 +119,17 @@ no_name left right trace refusals.ThirdTooLong h = refl
 no_name left right trace (refusals.TraceRefused f) h = refl
 no_name left right trace (refusals.CertRefused f) h = refl
 no_name left right trace (refusals.Unanswered u) h = no_list trace u h
+
+-- of a pair that is there only the third file's load can have failed
+pub third_name_failed : (left right third : List ℕ) (e : Ending) → IsOfPair e → failed_names left right third e ≡ failed_third third e
+third_name_failed left right third (Ok a) h = refl
+third_name_failed left right third (Err refusals.Memory) h = refl
+third_name_failed left right third (Err (refusals.Unpaired u)) h = absurd h
+third_name_failed left right third (Err refusals.ThirdFailed) h = refl
+third_name_failed left right third (Err refusals.ThirdTooLong) h = refl
+third_name_failed left right third (Err (refusals.TraceRefused f)) h = refl
+third_name_failed left right third (Err (refusals.CertRefused f)) h = refl
+third_name_failed left right third (Err (refusals.Unanswered u)) h = absurd h
 
 -- only differences and equivalences have a file
 no_name_for : (c : Asked) (status : ℕ) → 2 ≤ status → store_name c status ≡ None
@@ -265,10 +276,9 @@ within tells c (Err r) before after status low (is, p) = let high = refusal_high
 
 -- a world with the same files and store faults is the same
 pub moved : (P : World → Type 0) (f g : List ℕ → Option (List ℕ)) (m n : ℕ) (out : Option (List ℕ)) (out_faults : ℕ) (err : Option (List ℕ)) (err_faults : ℕ) → f ≡ g → m ≡ n
-    → P (record { files = f; store_faults = m; out = out; out_faults = out_faults; err = err; err_faults = err_faults }) → P (record { files = g; store_faults = n; out = out; out_faults = out_faults; err = err; err_faults = err_faults })
+    → P (world_of f m out out_faults err err_faults) → P (world_of g n out out_faults err err_faults)
 moved P f g m n out out_faults err err_faults e h p =
-    subst (λ (k : ℕ). P (record { files = g; store_faults = k; out = out; out_faults = out_faults; err = err; err_faults = err_faults })) h
-    (subst (λ (k : List ℕ → Option (List ℕ)). P (record { files = k; store_faults = m; out = out; out_faults = out_faults; err = err; err_faults = err_faults })) e p)
+    subst (λ (k : ℕ). P (world_of g k out out_faults err err_faults)) h (subst (λ (k : List ℕ → Option (List ℕ)). P (world_of k m out out_faults err err_faults)) e p)
 
 -- what holds of the command that the words mean
 pub some_and : (o : Option Asked) (c : Asked) (P : Asked → Type 0) → o ≡ Some c → P c → IsSomeAnd o P

@@ -7,7 +7,7 @@ use Rattle.verdict_stamp.specs.Known.{Refined}
 use Rattle.verdict_stamp.specs.Versions.{Standing}
 use Rattle.prover_table.specs.Tables.{IsKnownFor, IsMemoryFor}
 use Rattle.refine_board.specs.Running.{Written}
-use Rattle.command_line.specs.Asked.{CheckAsked, ClimbAsked, ForClimb}
+use Rattle.command_line.specs.Asked.{OptionsAsked, ClimbAsked, ForClimb, IsCheckWithin, IsClimbWithin}
 use Rattle.sec_cli.specs.declared.checking.Reached.{Reached}
 use Rattle.sec_cli.specs.declared.ending.Reply.{Reply}
 use Rattle.run_texts.specs.Verdicts.{status_of_verdict}
@@ -56,7 +56,7 @@ goes_on pair c k before a so lt is two = record {
         differs i h e = grind (arith, h, e)
 
 -- the text of a difference speaks of no journal
-any_journal : (pair : Pair) (c : CheckAsked) (v : Verdict) (text file : List ℕ) (o p : Option Written) → status_of_verdict v ≡ 1 → IsVerdictText pair c v text file o → IsVerdictText pair c v text file p
+any_journal : (pair : Pair) (c : OptionsAsked) (v : Verdict) (text file : List ℕ) (o p : Option Written) → status_of_verdict v ≡ 1 → IsVerdictText pair c v text file o → IsVerdictText pair c v text file p
 any_journal pair c (Equivalent n) text file o p one h = absurd (omega (arith, one))
 any_journal pair c (Different t j) text file o p one h = h
 any_journal pair c (Undecided n u) text file o p one h = absurd (omega (arith, one))
@@ -85,10 +85,10 @@ ends pair c k before a b so end (v, is, status, text) same_status same_text same
         not_one h e = let bad : true ≡ false = sym (ap (λ (s : ℕ). s == 1) h) ∙ e in cc
 
 -- an answer that ends the climb with the first depth
-pub ends_at_once : (pair : Pair) (c : ClimbAsked) (check : CheckAsked) (a b : Reply) → 0 < c.most → check ≡ check_of_climb c 1 → a.status ≡ 1 → IsCheckAnswer pair check a
+pub ends_at_once : (pair : Pair) (c : ClimbAsked) (check : OptionsAsked) (a b : Reply) → 0 < c.most → check ≡ check_of_climb c 1 → a.status ≡ 1 → IsCheckAnswer pair check a
     → b.status ≡ a.status → b.text.items ≡ a.text.items → b.file.items ≡ a.file.items → MatchBool (a.status == 1) (b.journal ≡ None) (b.journal ≡ a.journal) → IsClimbAnswer pair c b
 ends_at_once pair c check a b some same one is status text file journal =
-    ends pair c 1 None a b (begins pair c some) (λ two. absurd (omega (arith, one, two))) (subst (λ (x : CheckAsked). IsCheckAnswer pair x a) same is) status text file journal
+    ends pair c 1 None a b (begins pair c some) (λ two. absurd (omega (arith, one, two))) (subst (λ (x : OptionsAsked). IsCheckAnswer pair x a) same is) status text file journal
 
 pub has_journal : (c : ClimbAsked) (before : Option Written) (a b : Reply) → is_some a.journal ≡ is_refined a.status → b.status ≡ a.status → MatchBool (a.status == 1) (b.journal ≡ before) (b.journal ≡ a.journal)
     → HasJournal (ForClimb c) b.status b.journal
@@ -98,10 +98,10 @@ has_journal c before a b has same journal other = go (a.status == 1) refl journa
     go true e j = absurd (other (same ∙ eqb-true a.status 1 e))
     go false e j = ap is_some j ∙ has ∙ ap not e
 
-agree_at : (pair : Pair) (c : ClimbAsked) (k : ℕ) (a : Reply) → IsCheckAnswer pair (check_of_climb c k) a → a.status ≡ 2 → AgreeBelow pair k
-agree_at pair c k a (Equivalent n, is, status, text) two = absurd (omega (arith, status, two))
-agree_at pair c k a (Different t j, is, status, text) two = absurd (omega (arith, status, two))
-agree_at pair c k a (Undecided n u, is, status, text) two = is.0
+agree_at : (pair : Pair) (c : OptionsAsked) (a : Reply) → IsCheckAnswer pair c a → a.status ≡ 2 → AgreeBelow pair c.depth
+agree_at pair c a (Equivalent n, is, status, text) two = absurd (omega (arith, status, two))
+agree_at pair c a (Different t j, is, status, text) two = absurd (omega (arith, status, two))
+agree_at pair c a (Undecided n u, is, status, text) two = is.0
 
 for_more : (pair : Pair) (k : ℕ) (version : Standing) (o : Option Refined) → version.pair ≡ pair → version.k ≡ k → IfSome o (λ n. (n.pair ≡ version.pair) × (n.k ≡ version.k)) → IfSome o (IsKnownFor pair (k + 1))
 for_more pair k version None same at h = h
@@ -112,9 +112,19 @@ memory_for pair k version None same at h = h
 memory_for pair k version (Some m) same at h = (h.0 ∙ same, omega (arith, h.1, at))
 
 -- what is known before the next depth
-pub reaches : (pair : Pair) (c : ClimbAsked) (k : ℕ) (a : Reply) (version : Standing) (r : Reached) → IsCheckAnswer pair (check_of_climb c k) a → a.status ≡ 2 → version.pair ≡ pair → version.k ≡ k → r.agreed ≡ version.k
-    → IfSome r.earlier.known (λ n. (n.pair ≡ version.pair) × (n.k ≡ version.k)) → IfSome r.earlier.memory (IsMemoryFor version.pair (version.k + 1)) → IsReached pair (k + 1) r
-reaches pair c k a version r is two same at agreed known memory = (
-  subst (AgreeBelow pair) (sym (agreed ∙ at)) (agree_at pair c k a is two),
-  (for_more pair k version r.earlier.known same at known, memory_for pair k version r.earlier.memory same at memory),
+pub reaches : (pair : Pair) (c : OptionsAsked) (a : Reply) (version : Standing) (r : Reached) → c.depth ≡ c.k → IsCheckAnswer pair c a → a.status ≡ 2 → version.pair ≡ pair → version.k ≡ c.k → r.agreed ≡ version.k
+    → IfSome r.earlier.known (λ n. (n.pair ≡ version.pair) × (n.k ≡ version.k)) → IfSome r.earlier.memory (IsMemoryFor version.pair (version.k + 1)) → IsReached pair (c.k + 1) r
+reaches pair c a version r deep is two same at agreed known memory = (
+  subst (AgreeBelow pair) (deep ∙ sym (agreed ∙ at)) (agree_at pair c a is two),
+  (for_more pair c.k version r.earlier.known same at known, memory_for pair c.k version r.earlier.memory same at memory),
 )
+
+-- the check of a depth keeps the limits
+pub check_within : (c : ClimbAsked) (k : ℕ) (o : OptionsAsked) → IsClimbWithin c → 0 < k → k ≤ c.most → o ≡ check_of_climb c k → IsCheckWithin o
+check_within c k o within some few is = subst IsCheckWithin (sym is) (record {
+  some = some;
+  few = omega (arith, few, within.few);
+  no_less = omega arith;
+  shallow = omega (arith, few, within.few);
+  workers = within.workers;
+})

@@ -12,7 +12,7 @@ use Rattle.induction_base.proofs.Fixing.{one_least}
 use Rattle.trace_witness.specs.Texts.{trace_text}
 use Rattle.refine_board.specs.declared.journal.Entry.{Entry}
 use Rattle.refine_board.specs.Running.{Written}
-use Rattle.command_line.specs.Asked.{Asked, CheckAsked, ClimbAsked, ForCheck, ForReplay, ForVerify, ForDemo, ForClimb, ForReduce, ForBatch}
+use Rattle.command_line.specs.Asked.{Asked, OptionsAsked, ClimbAsked, ForCheck, ForReplay, ForVerify, ForDemo, ForClimb, ForReduce, ForBatch}
 use Rattle.sec_cli.specs.declared.ending.Reply.{Reply}
 use Rattle.run_texts.specs.Lines.{different_line}
 use Rattle.run_texts.specs.Verdicts.{status_of_verdict}
@@ -42,19 +42,19 @@ lines_one : (pair : Pair) (k : ℕ) (b : Bool) (x y : List ℕ)
 lines_one pair k true x y (a, is_a, of_a, left) (b, is_b, of_b, right) = left ∙ lines_same pair k a b is_a is_b of_a of_b ∙ sym right
 lines_one pair k false x y left right = left ∙ sym right
 
-refined_one : (pair : Pair) (c : CheckAsked) (e f : List Entry) (line x y : List ℕ) → c.stats ≡ false → IsRefinedText pair c e line x → IsRefinedText pair c f line y → x ≡ y
+refined_one : (pair : Pair) (c : OptionsAsked) (e f : List Entry) (line x y : List ℕ) → c.stats ≡ false → IsRefinedText pair c e line x → IsRefinedText pair c f line y → x ≡ y
 refined_one pair c e f line x y quiet r s =
     let none : (g : List Entry) → stats_lines c g ≡ [] = λ g. rw quiet refl in
     r.text_is ∙ ap (λ (l : List ℕ). (line ++ r.lines) ++ l) (none e) ∙ ap (λ (l : List ℕ). (line ++ l) ++ []) (lines_one pair c.k c.classes r.lines s.lines r.are_classes s.are_classes)
     ∙ ap (λ (l : List ℕ). (line ++ s.lines) ++ l) (sym (none f)) ∙ sym s.text_is
 
-journal_one : (pair : Pair) (c : CheckAsked) (p q : Option Written) (line x y : List ℕ) → c.stats ≡ false
+journal_one : (pair : Pair) (c : OptionsAsked) (p q : Option Written) (line x y : List ℕ) → c.stats ≡ false
     → IsSomeAnd p (λ j. IsRefinedText pair c j.entries line x) → IsSomeAnd q (λ j. IsRefinedText pair c j.entries line y) → x ≡ y
 journal_one pair c None q line x y quiet r s = absurd r
 journal_one pair c (Some p) None line x y quiet r s = absurd s
 journal_one pair c (Some p) (Some q) line x y quiet r s = refined_one pair c p.entries q.entries line x y quiet r s
 
-texts_one : (pair : Pair) (c : CheckAsked) (v : Verdict) (x y file other : List ℕ) (p q : Option Written) → c.least ≡ true → c.stats ≡ false → IsVerdictText pair c v x file p → IsVerdictText pair c v y other q
+texts_one : (pair : Pair) (c : OptionsAsked) (v : Verdict) (x y file other : List ℕ) (p q : Option Written) → c.least ≡ true → c.stats ≡ false → IsVerdictText pair c v x file p → IsVerdictText pair c v y other q
     → (x ≡ y) × (status_of_verdict v ≡ 1 → file ≡ other)
 texts_one pair c (Equivalent n) x y file other p q least quiet r s = (journal_one pair c p q _ x y quiet r.1 s.1, λ e. cc)
 texts_one pair c (Undecided n u) x y file other p q least quiet r s = (journal_one pair c p q _ x y quiet r s, λ e. cc)
@@ -63,7 +63,7 @@ texts_one pair c (Different t j) x y file other p q least quiet (run, shows, is,
     let files : file ≡ other = stored ∙ ap (trace_text j) one ∙ sym stored2 in
     (text ∙ ap (λ (l : List ℕ). different_line c.k t j ++ l) files ∙ sym text2, λ e. files)
 
-answers_one : (pair : Pair) (c : CheckAsked) (a b : Reply) → c.least ≡ true → c.stats ≡ false → IsCheckAnswer pair c a → IsCheckAnswer pair c b → AreSame a b
+answers_one : (pair : Pair) (c : OptionsAsked) (a b : Reply) → c.least ≡ true → c.stats ≡ false → IsCheckAnswer pair c a → IsCheckAnswer pair c b → AreSame a b
 answers_one pair c a b least quiet (v, is_v, status_a, text_a) (w, is_w, status_b, text_b) =
     let same : w ≡ v = one_verdict pair c.k c.depth w v is_w is_v in
     let t = texts_one pair c v a.text.items b.text.items a.file.items b.file.items a.journal b.journal least quiet text_a (subst (λ (u : Verdict). IsVerdictText pair c u b.text.items b.file.items b.journal) same text_b) in
@@ -95,14 +95,14 @@ one_climb left right c a b least (p, is_p, answer_p) (q, is_q, answer_q) =
 -- what was printed and stored is that of each answer
 pub only_answer : (tells : Bool) (c : Asked) (status : ℕ) (journal : Option Written) (before after : World) → IsAnswered tells c status journal before after → IsOneAnswer tells c status before after
 only_answer tells (ForCheck c) status journal before after given = λ told least quiet other h.
-    let one = one_answer (before.files c.left) (before.files c.right) c given.answer other least quiet (given.ended told) h in
+    let one = one_answer (before.files c.left) (before.files c.right) c.options given.answer other least quiet (given.ended told) h in
     record {
       status_is = sym one.status ∙ given.status_is;
       printed = given.printed ∙ ap (appended before.out) one.text;
       stored = λ is.
           let difference : given.answer.status ≡ 1 = given.status_is ∙ is in
-          let named : IsStored tells before.files after.files c.trace given.answer.file.items = subst (λ (s : ℕ). IsStored tells before.files after.files (store_name (ForCheck c) s) given.answer.file.items) difference given.stored in
-          subst (IsStored tells before.files after.files c.trace) (one.trace difference) named;
+          let named : IsStored tells before.files after.files c.options.trace given.answer.file.items = subst (λ (s : ℕ). IsStored tells before.files after.files (store_name (ForCheck c) s) given.answer.file.items) difference given.stored in
+          subst (IsStored tells before.files after.files c.options.trace) (one.trace difference) named;
     }
 only_answer tells (ForReplay c) status journal before after given = tt
 only_answer tells (ForVerify c) status journal before after given = tt

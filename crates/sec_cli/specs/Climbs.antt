@@ -3,15 +3,15 @@ use Rattle.std.specs.Prelude.{◌≡◌, ℕ, ◌<◌, ◌≤◌, ◌+◌, false
 use Rattle.circ_model.specs.Meaning.{Pair}
 use Rattle.circ_model.specs.Verdict.{AgreeBelow, Undecided, IsVerdict}
 use Rattle.refine_board.specs.Running.{Written}
-use Rattle.command_line.specs.Asked.{CheckAsked, ClimbAsked}
+use Rattle.command_line.specs.Asked.{OptionsAsked, ClimbAsked}
 use Rattle.split_workers.specs.Refined.{IsEarlierFor}
 use Rattle.sec_cli.specs.declared.checking.Reached.{Reached}
 use Rattle.sec_cli.specs.declared.ending.Reply.{Reply}
 use Rattle.sec_cli.specs.Answers.{IsCheckAnswer, IsJournalOf}
 
 -- the check with induction over k frames, and a search for a difference in the first k: no class lines, no numbers of entries, no stored files, no ties
-abbrev pub check_of_climb : ClimbAsked → ℕ → CheckAsked
-check_of_climb c k = record { left = c.left; right = c.right; k = k; depth = k; workers = c.workers; classes = false; stats = false; trace = None; cert = None; tied = false; least = c.least }
+abbrev pub check_of_climb : ClimbAsked → ℕ → OptionsAsked
+check_of_climb c k = record { k = k; depth = k; workers = c.workers; classes = false; stats = false; trace = None; cert = None; tied = false; least = c.least }
 
 -- the outputs agree in the first frames, and what earlier checks left is for k
 abbrev pub IsReached : Pair → ℕ → Reached → Type 0

@@ -4,13 +4,15 @@ use Rattle.circ_model.specs.Netlist.{Netlist}
 use Rattle.circ_model.specs.Meaning.{Pair}
 use Rattle.corr_certificate.specs.Certificate.{IsChecked}
 use Rattle.corr_certificate.specs.declared.fault.Checked.TheVariants.{No}
+use Rattle.trace_witness.specs.declared.fault.TraceError.{TraceError}
+use Rattle.trace_witness.specs.declared.fault.TraceError.TheVariants as errors
 use Rattle.trace_witness.specs.Lines.{lines_of}
 use Rattle.trace_witness.specs.Texts.{trace_of}
 use Rattle.refine_board.specs.Running.{Written}
 use Rattle.sec_cli.specs.Answers.{IsCheckAnswer, IsReplayAnswer, IsVerifyAnswer, IsDemoAnswer, is_refined}
 use Rattle.sec_cli.specs.Climbs.{IsClimbAnswer}
 use Rattle.sec_cli.specs.Reductions.{IsReduceAnswer}
-use Rattle.command_line.specs.Asked.{Asked, ForCheck, ForReplay, ForVerify, ForDemo, ForClimb, ForReduce, ForBatch, BatchAsked, CheckAsked, ClimbAsked, ReduceAsked}
+use Rattle.command_line.specs.Asked.{Asked, ForCheck, ForReplay, ForVerify, ForDemo, ForClimb, ForReduce, ForBatch, BatchAsked, OptionsAsked, ClimbAsked, ReduceAsked}
 use Rattle.command_line.specs.declared.command.Demo.{Demo}
 use Rattle.sec_cli.specs.declared.ending.Reply.{Reply}
 use Rattle.sec_cli.specs.declared.ending.Refusal.{Refusal}
@@ -60,7 +62,7 @@ third_name (ForReduce r) = []
 third_name (ForBatch b) = b.list
 
 -- how the check of two files ends
-abbrev pub IsCheckEnding : Option (List ℕ) → Option (List ℕ) → CheckAsked → Ending → Type 0
+abbrev pub IsCheckEnding : Option (List ℕ) → Option (List ℕ) → OptionsAsked → Ending → Type 0
 IsCheckEnding left right c (Err refusals.Memory) = Unit {0}
 IsCheckEnding left right c (Err (refusals.Unpaired u)) = IsNoPair c.tied left right u
 IsCheckEnding left right c (Ok a) = (pair : Pair) × ArePair c.tied left right pair × IsCheckAnswer pair c a
@@ -192,6 +194,11 @@ IsLoadEnding (Err (refusals.CertRefused f)) = ⊥
 IsLoadEnding (Err (refusals.Unanswered u)) = IsFailed u
 IsLoadEnding (Ok a) = ⊥
 
+-- why a run answers nothing whose trace wasn't read
+abbrev pub refusal_of : TraceError → Refusal
+refusal_of (errors.Refused f) = refusals.TraceRefused f
+refusal_of errors.Memory = refusals.Memory
+
 -- how the replay of a trace's file on a pair ends
 abbrev pub IsReplayedAs : Pair → List ℕ → Ending → Type 0
 IsReplayedAs pair bytes (Err refusals.Memory) = Unit {0}
@@ -245,7 +252,18 @@ IsOfPair (Err (refusals.CertRefused f)) = Unit {0}
 IsOfPair (Err (refusals.Unanswered u)) = ⊥
 IsOfPair (Ok a) = Unit {0}
 
-abbrev pub failed_third : List ℕ → Ending → List (List ℕ)
+-- why the file of a trace or a certificate gives no bytes, where its shelf tells its files or not
+abbrev pub IsUnloaded : Bool → Option (List ℕ) → Refusal → Type 0
+IsUnloaded tells file refusals.Memory = Unit {0}
+IsUnloaded tells file refusals.ThirdFailed = Unit {0}
+IsUnloaded tells file refusals.ThirdTooLong = IsTrue tells → IsSomeAnd file (λ bytes. longest_third < length bytes)
+IsUnloaded tells file (refusals.Unpaired u) = ⊥
+IsUnloaded tells file (refusals.TraceRefused f) = ⊥
+IsUnloaded tells file (refusals.CertRefused f) = ⊥
+IsUnloaded tells file (refusals.Unanswered u) = ⊥
+
+-- the name of such a file, where its load failed
+abbrev pub failed_third : {A : Type 0} → List ℕ → Result A Refusal → List (List ℕ)
 failed_third trace (Err refusals.ThirdFailed) = trace ∷ []
 failed_third trace (Err (refusals.Unpaired u)) = []
 failed_third trace (Err refusals.Memory) = []

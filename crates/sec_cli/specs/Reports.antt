@@ -37,7 +37,7 @@ told_of c r = refusal_text (left_name c) (right_name c) (third_name c) r
 
 -- the name under which the command stores the file of an answer of this status, if any
 abbrev pub store_name : Asked → ℕ → Option (List ℕ)
-store_name (ForCheck c) status = if status == 1 then c.trace else if status == 0 then c.cert else None
+store_name (ForCheck c) status = if status == 1 then c.options.trace else if status == 0 then c.options.cert else None
 store_name (ForReplay c) status = None
 store_name (ForVerify c) status = None
 store_name (ForDemo d) status = None
@@ -62,6 +62,10 @@ pub record World : Type 0 where
   pub out_faults : ℕ
   pub err : Option (List ℕ)
   pub err_faults : ℕ
+
+-- the world of these, in the order of its fields
+abbrev pub world_of : (List ℕ → Option (List ℕ)) → ℕ → Option (List ℕ) → ℕ → Option (List ℕ) → ℕ → World
+world_of files store_faults out out_faults err err_faults = record { files = files; store_faults = store_faults; out = out; out_faults = out_faults; err = err; err_faults = err_faults }
 
 abbrev pub IsToldIn : World → World → List ℕ → Type 0
 IsToldIn before after text = IsTold before.err before.err_faults text after.err after.err_faults

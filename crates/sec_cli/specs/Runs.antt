@@ -11,7 +11,7 @@ use Rattle.sec_cli.specs.Reports.{World, IsStored, IsUnprinted, IsUnstoredAs, st
 
 -- how the command ended over these files, where the shelf tells them; a demo reads none
 abbrev pub Ended : Bool → (List ℕ → Option (List ℕ)) → Asked → Ending → Type 0
-Ended tells file (ForCheck c) e = IsTrue tells → IsCheckEnding (file c.left) (file c.right) c e
+Ended tells file (ForCheck c) e = IsTrue tells → IsCheckEnding (file c.left) (file c.right) c.options e
 Ended tells file (ForReplay c) e = IsTrue tells → IsReplayEnding c.tied (file c.left) (file c.right) (file c.trace) e
 Ended tells file (ForVerify c) e = IsTrue tells → IsVerifyEnding c.tied (file c.left) (file c.right) (file c.cert) e
 Ended tells file (ForDemo d) e = IsDemoEnding d e

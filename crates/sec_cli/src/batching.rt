@@ -4,7 +4,7 @@ ghost use Rattle.sec_base.specs.Faults.{Rose, appended};
 ghost use Rattle.command_line.specs.Asked.{IsBatchWithin, batch_asked};
 ghost use Rattle.sec_cli.specs.Endings.{IsBatchEnded, IsLoadEnding, failed_names};
 
-use crate::ending::{Reply, Refusal};
+use crate::ending::{Refusal, Reply};
 use batch_run::{Plan, run_batch};
 use command_line::Batch;
 use sec_base::{Gate, Shelf};
@@ -31,16 +31,11 @@ pub(crate) fn batch_ending<R: Threads + Wait + Sync, S: Shelf, G: Gate>(
     ensures store_count { S.store_faults shelf.new ≡ S.store_faults shelf.old }
 {
     let plan = Plan::new(b.k, b.workers);
-    match run_batch(rt, alloc, shelf, b.list, &plan, gate) {
-        Ok(batch) => {
-            let batch_run::Batch { text, status } = batch;
-            Ok(Reply {
-                status,
-                text,
-                file: Vec::new(alloc),
-                journal: None,
-            })
-        }
-        Err(unanswered) => Err(Refusal::Unanswered(unanswered)),
-    }
+    let batch_run::Batch { text, status } = run_batch(rt, alloc, shelf, b.list, &plan, gate)?;
+    Ok(Reply {
+        status,
+        text,
+        file: Vec::new(alloc),
+        journal: None,
+    })
 }

@@ -5,7 +5,7 @@ ghost use Rattle.circ_model.specs.Verdict.{AgreeBelow};
 ghost use Rattle.class_partition.specs.Classes.{ArePartition, AreOfGreatest};
 ghost use Rattle.class_partition.specs.Laws.{PairOutput};
 ghost use Rattle.induction_base.specs.Least.{IsLeastOrNone, IsShown};
-ghost use Rattle.command_line.specs.Asked.{check_asked, IsCheckWithin};
+ghost use Rattle.command_line.specs.Asked.{options_asked, IsCheckWithin};
 ghost use Rattle.pair_pool.specs.Unpaired.{AreLeftOut};
 ghost use Rattle.prover_table.specs.Tables.{IsMemoryFor};
 ghost use Rattle.split_workers.specs.Refined.{IsRefined};
@@ -17,7 +17,7 @@ use crate::ending::Reply;
 use cert_writer::write_cert;
 use class_partition::Classes;
 use class_text::push_class_lines;
-use command_line::Check;
+use command_line::CheckOptions;
 use induction_base::{Diff, least_difference, least_difference_beyond, least_run};
 use pair_pool::left_out;
 use product_machine::Product;
@@ -35,13 +35,13 @@ use verdict_stamp::Version;
 fn push_classes(
     alloc: Global,
     product: &Product,
-    c: &Check,
+    c: &CheckOptions,
     classes: &Classes,
     text: &mut Vec<u8>,
 ) -> Result<(), AllocError>
     requires partition { ArePartition (places_of product.now) classes.now }
     requires greatest { AreOfGreatest product.now c.now.k classes.now }
-    ensures { OnOk result ((lines : List ℕ) × AreClassLines product.now (check_asked c.now) lines × (text.new.items ≡ text.old.items ++ lines)) }
+    ensures { OnOk result ((lines : List ℕ) × AreClassLines product.now (options_asked c.now) lines × (text.new.items ≡ text.old.items ++ lines)) }
 {
     if c.classes {
         push_class_lines(alloc, product, classes, text)?;
@@ -52,11 +52,11 @@ fn push_classes(
 // Adds the line of the journal's numbers where it is asked for.
 fn push_stats(
     alloc: Global,
-    c: &Check,
+    c: &CheckOptions,
     journal: &Journal,
     text: &mut Vec<u8>,
 ) -> Result<(), AllocError>
-    ensures { OnOk result (text.new.items ≡ text.old.items ++ stats_lines (check_asked c.now) journal.now.entries) }
+    ensures { OnOk result (text.new.items ≡ text.old.items ++ stats_lines (options_asked c.now) journal.now.entries) }
 {
     if c.stats {
         let line = stats_line(alloc, stats_of(journal))?;
@@ -69,15 +69,15 @@ fn push_stats(
 fn push_lines(
     alloc: Global,
     product: &Product,
-    c: &Check,
+    c: &CheckOptions,
     classes: &Classes,
     journal: &Journal,
     text: &mut Vec<u8>,
 ) -> Result<(), AllocError>
     requires partition { ArePartition (places_of product.now) classes.now }
     requires greatest { AreOfGreatest product.now c.now.k classes.now }
-    requires journal { IsJournalOf product.now (check_asked c.now) journal.now.entries }
-    ensures { OnOk result (IsRefinedText product.now (check_asked c.now) journal.now.entries text.old.items text.new.items) }
+    requires journal { IsJournalOf product.now (options_asked c.now) journal.now.entries }
+    ensures { OnOk result (IsRefinedText product.now (options_asked c.now) journal.now.entries text.old.items text.new.items) }
 {
     push_classes(alloc, product, c, classes, text)?;
     push_stats(alloc, c, journal, text)
@@ -88,7 +88,7 @@ fn push_lines(
 fn deeper_difference(
     alloc: Global,
     product: &Product,
-    c: &Check,
+    c: &CheckOptions,
     classes: &Classes,
     agreed: u32,
 ) -> Result<Option<Diff>, AllocError>
@@ -96,7 +96,7 @@ fn deeper_difference(
     requires partition { ArePartition (places_of product.now) classes.now }
     requires greatest { AreOfGreatest product.now c.now.k classes.now }
     requires agree { AgreeBelow product.now agreed }
-    requires within { IsCheckWithin (check_asked c.now) }
+    requires within { IsCheckWithin (options_asked c.now) }
     ensures { IfOk result (IsLeastOrNone product.now c.now.depth) }
 {
     if c.depth <= agreed {
@@ -110,7 +110,7 @@ fn deeper_difference(
 fn answer_by(
     alloc: Global,
     product: &Product,
-    c: &Check,
+    c: &CheckOptions,
     classes: &Classes,
     journal: Journal,
     agreed: u32,
@@ -118,10 +118,10 @@ fn answer_by(
     requires sound { IsSoundPair product.now }
     requires partition { ArePartition (places_of product.now) classes.now }
     requires greatest { AreOfGreatest product.now c.now.k classes.now }
-    requires journal { IsJournalOf product.now (check_asked c.now) journal.entries }
+    requires journal { IsJournalOf product.now (options_asked c.now) journal.entries }
     requires agree { AgreeBelow product.now agreed }
-    requires within { IsCheckWithin (check_asked c.now) }
-    ensures answer { IfOk result (IsCheckAnswer product.now (check_asked c.now)) }
+    requires within { IsCheckWithin (options_asked c.now) }
+    ensures answer { IfOk result (IsCheckAnswer product.now (options_asked c.now)) }
     ensures status { IfOk result (λ a. a.status ≤ 2) }
     ensures journal { IfOk result (λ a. is_some a.journal ≡ is_refined a.status) }
 {
@@ -140,7 +140,7 @@ fn answer_by(
 fn cert_of(
     alloc: Global,
     product: &Product,
-    c: &Check,
+    c: &CheckOptions,
     classes: &Classes,
 ) -> Result<Vec<u8>, AllocError>
     requires partition { ArePartition (places_of product.now) classes.now }
@@ -148,7 +148,7 @@ fn cert_of(
     requires paired { (j : ℕ) → j < outputs_of product.now → PairOutput product.now classes.now j }
     requires some { 0 < c.now.k }
     requires few { c.now.k ≤ 16 }
-    ensures { IfOk result (λ file. IsCertOf product.now (check_asked c.now) file.items) }
+    ensures { IfOk result (λ file. IsCertOf product.now (options_asked c.now) file.items) }
 {
     if c.cert.is_none() {
         return Ok(Vec::new(alloc));
@@ -161,18 +161,18 @@ fn cert_of(
 fn equivalent(
     alloc: Global,
     product: &Product,
-    c: &Check,
+    c: &CheckOptions,
     classes: &Classes,
     journal: Journal,
 ) -> Result<Reply, AllocError>
     requires sound { IsSoundPair product.now }
     requires partition { ArePartition (places_of product.now) classes.now }
     requires greatest { AreOfGreatest product.now c.now.k classes.now }
-    requires journal { IsJournalOf product.now (check_asked c.now) journal.entries }
+    requires journal { IsJournalOf product.now (options_asked c.now) journal.entries }
     requires paired { (j : ℕ) → j < outputs_of product.now → PairOutput product.now classes.now j }
     requires some { 0 < c.now.k }
     requires few { c.now.k ≤ 16 }
-    ensures answer { IfOk result (IsCheckAnswer product.now (check_asked c.now)) }
+    ensures answer { IfOk result (IsCheckAnswer product.now (options_asked c.now)) }
     ensures status { IfOk result (λ a. a.status ≤ 2) }
     ensures journal { IfOk result (λ a. is_some a.journal ≡ is_refined a.status) }
 {
@@ -192,7 +192,7 @@ fn equivalent(
 fn undecided(
     alloc: Global,
     product: &Product,
-    c: &Check,
+    c: &CheckOptions,
     classes: &Classes,
     journal: Journal,
     outputs: &[u32],
@@ -200,11 +200,11 @@ fn undecided(
     requires sound { IsSoundPair product.now }
     requires partition { ArePartition (places_of product.now) classes.now }
     requires greatest { AreOfGreatest product.now c.now.k classes.now }
-    requires journal { IsJournalOf product.now (check_asked c.now) journal.entries }
+    requires journal { IsJournalOf product.now (options_asked c.now) journal.entries }
     requires agree { AgreeBelow product.now c.now.depth }
     requires some { outputs.now ≢ [] }
     requires left_out { AreLeftOut product.now classes.now (outputs_of product.now) outputs.now }
-    ensures answer { IfOk result (IsCheckAnswer product.now (check_asked c.now)) }
+    ensures answer { IfOk result (IsCheckAnswer product.now (options_asked c.now)) }
     ensures status { IfOk result (λ a. a.status ≤ 2) }
     ensures journal { IfOk result (λ a. is_some a.journal ≡ is_refined a.status) }
 {
@@ -225,12 +225,12 @@ fn undecided(
 fn run_asked_for(
     alloc: Global,
     product: &Product,
-    c: &Check,
+    c: &CheckOptions,
     diff: Diff,
 ) -> Result<Diff, AllocError>
     requires shown { IsShown product.now c.now.depth diff }
-    requires within { IsCheckWithin (check_asked c.now) }
-    ensures { IfOk result (IsShownAs product.now (check_asked c.now)) }
+    requires within { IsCheckWithin (options_asked c.now) }
+    ensures { IfOk result (IsShownAs product.now (options_asked c.now)) }
 {
     let _cells = product.cells();
     if c.least {
@@ -243,12 +243,12 @@ fn run_asked_for(
 pub(crate) fn different(
     alloc: Global,
     product: &Product,
-    c: &Check,
+    c: &CheckOptions,
     diff: Diff,
 ) -> Result<Reply, AllocError>
     requires shown { IsShown product.now c.now.depth diff }
-    requires within { IsCheckWithin (check_asked c.now) }
-    ensures answer { IfOk result (IsCheckAnswer product.now (check_asked c.now)) }
+    requires within { IsCheckWithin (options_asked c.now) }
+    ensures answer { IfOk result (IsCheckAnswer product.now (options_asked c.now)) }
     ensures status { IfOk result (λ a. a.status ≡ 1) }
     ensures journal { IfOk result (λ a. is_some a.journal ≡ is_refined a.status) }
 {
@@ -288,15 +288,15 @@ impl<'p> Reached<'p> {
 fn concluded<'p>(
     alloc: Global,
     product: &'p Product,
-    c: &Check,
+    c: &CheckOptions,
     refined: Refined<'p>,
     agreed: u32,
 ) -> Result<(Reply, Version<'p>), AllocError>
     requires sound { IsSoundPair product.now }
     requires refined { IsRefined product.now c.now.k c.now.workers refined.version refined.journal.entries }
     requires agree { AgreeBelow product.now agreed }
-    requires within { IsCheckWithin (check_asked c.now) }
-    ensures answer { IfOk result (λ r. IsCheckAnswer product.entry.now (check_asked c.now) r.0) }
+    requires within { IsCheckWithin (options_asked c.now) }
+    ensures answer { IfOk result (λ r. IsCheckAnswer product.entry.now (options_asked c.now) r.0) }
     ensures status { IfOk result (λ r. r.0.status ≤ 2) }
     ensures journal { IfOk result (λ r. is_some r.0.journal ≡ is_refined r.0.status) }
     ensures pair { IfOk result (λ r. r.1.pair ≡ product.entry.now) }
@@ -318,13 +318,13 @@ pub(crate) fn check_beyond<'p, R: Threads + Wait + Sync, G: Gate>(
     rt: &R,
     alloc: Global,
     product: &'p Product,
-    c: &Check,
+    c: &CheckOptions,
     reached: &mut Reached<'p>,
     gate: &G,
 ) -> Result<(Reply, Version<'p>), AllocError>
-    requires within { IsCheckWithin (check_asked c.now) }
+    requires within { IsCheckWithin (options_asked c.now) }
     requires reached { IsReached product.now c.now.k reached.old }
-    ensures answer { IfOk result (λ r. IsCheckAnswer product.entry.now (check_asked c.now) r.0) }
+    ensures answer { IfOk result (λ r. IsCheckAnswer product.entry.now (options_asked c.now) r.0) }
     ensures status { IfOk result (λ r. r.0.status ≤ 2) }
     ensures journal { IfOk result (λ r. is_some r.0.journal ≡ is_refined r.0.status) }
     ensures pair { IfOk result (λ r. r.1.pair ≡ product.entry.now) }
@@ -344,12 +344,12 @@ fn check_agreed<'p, R: Threads + Wait + Sync, G: Gate>(
     rt: &R,
     alloc: Global,
     product: &'p Product,
-    c: &Check,
+    c: &CheckOptions,
     gate: &G,
 ) -> Result<(Reply, Version<'p>), AllocError>
-    requires within { IsCheckWithin (check_asked c.now) }
+    requires within { IsCheckWithin (options_asked c.now) }
     requires agree { AgreeBelow product.now 1 }
-    ensures answer { IfOk result (λ r. IsCheckAnswer product.entry.now (check_asked c.now) r.0) }
+    ensures answer { IfOk result (λ r. IsCheckAnswer product.entry.now (options_asked c.now) r.0) }
     ensures status { IfOk result (λ r. r.0.status ≤ 2) }
     ensures journal { IfOk result (λ r. is_some r.0.journal ≡ is_refined r.0.status) }
 {
@@ -361,11 +361,11 @@ pub(crate) fn check_pair<R: Threads + Wait + Sync, G: Gate>(
     rt: &R,
     alloc: Global,
     product: &Product,
-    c: &Check,
+    c: &CheckOptions,
     gate: &G,
 ) -> Result<Reply, AllocError>
-    requires { IsCheckWithin (check_asked c.now) }
-    ensures answer { IfOk result (IsCheckAnswer product.now (check_asked c.now)) }
+    requires { IsCheckWithin (options_asked c.now) }
+    ensures answer { IfOk result (IsCheckAnswer product.now (options_asked c.now)) }
     ensures status { IfOk result (λ a. a.status ≤ 2) }
     ensures journal { IfOk result (λ a. is_some a.journal ≡ is_refined a.status) }
 {

@@ -4,14 +4,14 @@ ghost use Rattle.circ_model.specs.Verdict.{AgreeBelow};
 ghost use Rattle.class_partition.specs.Classes.{AreOfGreatest};
 ghost use Rattle.induction_base.specs.Least.{IsShown};
 ghost use Rattle.prover_table.specs.Tables.{IsMemoryFor};
-ghost use Rattle.command_line.specs.Asked.{ForClimb, check_asked, climb_asked, IsClimbWithin};
+ghost use Rattle.command_line.specs.Asked.{ForClimb, climb_asked, options_asked, IsCheckWithin, IsClimbWithin};
 ghost use Rattle.sec_cli.specs.Endings.{HasJournal};
 ghost use Rattle.sec_cli.specs.Answers.{IsCheckAnswer, is_refined};
 ghost use Rattle.sec_cli.specs.Climbs.{IsClimbAnswer, IsReached, check_of_climb};
 
 use crate::checking::{Reached, check_beyond, different};
 use crate::ending::Reply;
-use command_line::{Check, Climb};
+use command_line::{CheckOptions, Climb};
 use induction_base::{Diff, least_difference};
 use product_machine::Product;
 use refine_board::Journal;
@@ -23,12 +23,12 @@ use std::thread::Threads;
 use verdict_stamp::{Known, ProverMemory, Version};
 
 // The check with induction over so many frames.
-fn check_of<'w>(c: &Climb<'w>, k: u32) -> Check<'w>
-    ensures { check_asked result ≡ check_of_climb (climb_asked c.now) k }
+fn check_of(c: &Climb, k: u32) -> CheckOptions<'static>
+    ensures asked { options_asked result ≡ check_of_climb (climb_asked c.now) k }
+    ensures k { result.k ≡ k }
+    ensures depth { result.depth ≡ k }
 {
-    Check {
-        left: c.left,
-        right: c.right,
+    CheckOptions {
         k,
         depth: k,
         workers: c.workers,
@@ -39,32 +39,6 @@ fn check_of<'w>(c: &Climb<'w>, k: u32) -> Check<'w>
         tied: false,
         least: c.least,
     }
-}
-
-// That check, of a pair of which this is known.
-fn check_at<'p, R: Threads + Wait + Sync, G: Gate>(
-    rt: &R,
-    alloc: Global,
-    product: &'p Product,
-    c: &Climb,
-    k: u32,
-    reached: &mut Reached<'p>,
-    gate: &G,
-) -> Result<(Reply, Version<'p>), AllocError>
-    requires within { IsClimbWithin (climb_asked c.now) }
-    requires some { 0 < k }
-    requires few { k ≤ c.now.most }
-    requires reached { IsReached product.now k reached.old }
-    ensures answer { IfOk result (λ r. IsCheckAnswer product.entry.now (check_of_climb (climb_asked c.now) k) r.0) }
-    ensures status { IfOk result (λ r. r.0.status ≤ 2) }
-    ensures journal { IfOk result (λ r. is_some r.0.journal ≡ is_refined r.0.status) }
-    ensures pair { IfOk result (λ r. r.1.pair ≡ product.entry.now) }
-    ensures k { IfOk result (λ r. r.1.k ≡ k) }
-    ensures greatest { IfOk result (λ r. AreOfGreatest product.entry.now k r.1.classes) }
-    ensures memory { IfSome reached.new.earlier.memory (IsMemoryFor product.entry.now k) }
-{
-    let check = check_of(c, k);
-    check_beyond(rt, alloc, product, &check, reached, gate)
 }
 
 // What is known before the first check of a climb, where the outputs agree in the first frame. What it proves can go on to so many
@@ -157,26 +131,25 @@ fn differs_at_once(
     Ok(ended(answer, None))
 }
 
-// The check with induction over so many frames, and where it is undecided what is known before the next.
+// A check of a climb, and where it is undecided what is known before the next.
 fn try_depth<'p, R: Threads + Wait + Sync, G: Gate>(
     rt: &R,
     alloc: Global,
     product: &'p Product,
-    c: &Climb,
-    k: u32,
+    check: &CheckOptions,
     reached: &mut Reached<'p>,
     gate: &G,
 ) -> Result<Reply, AllocError>
-    requires within { IsClimbWithin (climb_asked c.now) }
-    requires some { 0 < k }
-    requires few { k < c.now.most }
-    requires reached { IsReached product.now k reached.old }
-    ensures answer { IfOk result (IsCheckAnswer product.entry.now (check_of_climb (climb_asked c.now) k)) }
+    requires within { IsCheckWithin (options_asked check.now) }
+    requires depth { check.now.depth ≡ check.now.k }
+    requires few { check.now.k < 16 }
+    requires reached { IsReached product.now check.now.k reached.old }
+    ensures answer { IfOk result (IsCheckAnswer product.entry.now (options_asked check.now)) }
     ensures status { IfOk result (λ a. a.status ≤ 2) }
     ensures journal { IfOk result (λ a. is_some a.journal ≡ is_refined a.status) }
-    ensures reached { IfOk result (λ a. a.status ≡ 2 → IsReached product.entry.now (k + 1) reached.new) }
+    ensures reached { IfOk result (λ a. a.status ≡ 2 → IsReached product.entry.now (check.now.k + 1) reached.new) }
 {
-    let (answer, version) = check_at(rt, alloc, product, c, k, reached, gate)?;
+    let (answer, version) = check_beyond(rt, alloc, product, check, reached, gate)?;
     if answer.status != 2 {
         return Ok(answer);
     }
@@ -203,13 +176,13 @@ fn climb_from<'p, R: Threads + Wait + Sync, G: Gate>(
 {
     let mut before = None;
     for k in 1..c.most {
-        let answer = try_depth(rt, alloc, product, c, k, reached, gate)?;
+        let answer = try_depth(rt, alloc, product, &check_of(c, k), reached, gate)?;
         if answer.status != 2 {
             return Ok(ended(answer, before));
         }
         before = answer.journal;
     }
-    let (answer, _) = check_at(rt, alloc, product, c, c.most, reached, gate)?;
+    let (answer, _) = check_beyond(rt, alloc, product, &check_of(c, c.most), reached, gate)?;
     Ok(ended(answer, before))
 }
 

@@ -1,7 +1,7 @@
 // One run: its words, its files, and what is written of it.
 ghost use Rattle.std.specs.Prelude.{◌≡◌, ◌≢◌, ◌≤◌, ◌<◌, ◌⊎◌, ℕ, List, [], ◌∷◌, IsTrue, IsSomeAnd, MatchBool, None, is_some, IfOk};
 ghost use Rattle.sec_base.specs.Faults.{Rose, appended};
-ghost use Rattle.command_line.specs.Asked.{Asked, ForClimb, asked_of, check_asked, climb_asked, reduce_asked, IsCheckWithin, IsClimbWithin, IsDemoWithin, IsReduceWithin, IsWithin};
+ghost use Rattle.command_line.specs.Asked.{Asked, ForClimb, asked_of, climb_asked, options_asked, reduce_asked, IsCheckWithin, IsClimbWithin, IsDemoWithin, IsReduceWithin, IsWithin};
 ghost use Rattle.command_line.specs.Meant.{meant, AreNoCommand};
 ghost use Rattle.command_line.specs.Plain.{texts};
 ghost use Rattle.sec_cli.specs.Answers.{is_refined};
@@ -9,7 +9,7 @@ ghost use Rattle.run_texts.specs.Texts.{memory_text};
 ghost use Rattle.run_texts.specs.Told.{IsTold};
 ghost use Rattle.sec_cli.specs.Texts.{usage_text};
 ghost use Rattle.sec_cli.specs.Endings.{Ending, IsCheckEnding, IsReplayEnding, IsVerifyEnding, IsDemoEnding, IsClimbEnding, IsReduceEnding, IsLoadEnding, IsAnswerStatus, HasJournal, journal_of, failed_names, left_name, right_name, third_name};
-ghost use Rattle.sec_cli.specs.Reports.{IsReport, refusal_status, told_of};
+ghost use Rattle.sec_cli.specs.Reports.{IsReport, refusal_status, told_of, world_of};
 ghost use Rattle.sec_cli.specs.OneAnswer.{IsOneAnswer};
 ghost use Rattle.sec_cli.specs.Runs.{Ended, IsAnswered, IsJournalOfWords, IsRefusedOrBatch, IsUnread, IsUnwritten};
 
@@ -18,7 +18,7 @@ use crate::checking::check_pair;
 use crate::climbing::climb_pair;
 use crate::delivering::deliver;
 use crate::demo::demo_answer;
-use crate::ending::{Reply, Refusal};
+use crate::ending::{Refusal, Reply};
 use crate::reducing::reduce_net;
 use crate::replaying::replay;
 use crate::telling::{refusal_status, tell_refusal};
@@ -51,28 +51,21 @@ fn check_files<R: Threads + Wait + Sync, S: Shelf, G: Gate>(
     rt: &R,
     alloc: Global,
     shelf: &mut S,
-    left: &str,
-    right: &str,
     c: &Check,
     gate: &G,
 ) -> Result<Reply, Refusal>
-    requires { IsCheckWithin (check_asked c.now) }
-    ensures ending { IsTrue S.tells → IsCheckEnding (S.file shelf.old left.now) (S.file shelf.old right.now) (check_asked c.now) result }
+    requires { IsCheckWithin (options_asked c.now.options) }
+    ensures ending { IsTrue S.tells → IsCheckEnding (S.file shelf.old c.now.left.now) (S.file shelf.old c.now.right.now) (options_asked c.now.options) result }
     ensures status { IfOk result (λ a. a.status ≤ 2) }
     ensures journal { IfOk result (λ a. is_some a.journal ≡ is_refined a.status) }
     ensures failed { IsLoadEnding result → Rose (S.load_faults shelf.old) (S.load_faults shelf.new) }
     ensures files { S.file shelf.new ≡ S.file shelf.old }
-    ensures names { S.failed shelf.new ≡ appended (S.failed shelf.old) (failed_names left.now right.now [] result) }
+    ensures names { S.failed shelf.new ≡ appended (S.failed shelf.old) (failed_names c.now.left.now c.now.right.now [] result) }
     ensures load_count { S.load_faults shelf.old ≤ S.load_faults shelf.new }
     ensures store_count { S.store_faults shelf.new ≡ S.store_faults shelf.old }
 {
-    match load_pair(alloc, shelf, left, right, c.tied) {
-        Err(unpaired) => Err(Refusal::Unpaired(unpaired)),
-        Ok(product) => match check_pair(rt, alloc, &product, c, gate) {
-            Ok(answer) => Ok(answer),
-            Err(_) => Err(Refusal::Memory),
-        },
-    }
+    let product = load_pair(alloc, shelf, c.left, c.right, c.options.tied)?;
+    Ok(check_pair(rt, alloc, &product, &c.options, gate)?)
 }
 
 // The answer of a replay of the third file on the other two.
@@ -93,10 +86,8 @@ fn replay_files<S: Shelf>(
     ensures load_count { S.load_faults shelf.old ≤ S.load_faults shelf.new }
     ensures store_count { S.store_faults shelf.new ≡ S.store_faults shelf.old }
 {
-    match load_pair(alloc, shelf, left, right, tied) {
-        Err(unpaired) => Err(Refusal::Unpaired(unpaired)),
-        Ok(product) => replay(alloc, shelf, &product, trace),
-    }
+    let product = load_pair(alloc, shelf, left, right, tied)?;
+    replay(alloc, shelf, &product, trace)
 }
 
 // The answer of reading the third file as a certificate for the other two.
@@ -117,10 +108,8 @@ fn verify_files<S: Shelf>(
     ensures load_count { S.load_faults shelf.old ≤ S.load_faults shelf.new }
     ensures store_count { S.store_faults shelf.new ≡ S.store_faults shelf.old }
 {
-    match load_pair(alloc, shelf, left, right, tied) {
-        Err(unpaired) => Err(Refusal::Unpaired(unpaired)),
-        Ok(product) => verify_file(alloc, shelf, &product, cert),
-    }
+    let product = load_pair(alloc, shelf, left, right, tied)?;
+    verify_file(alloc, shelf, &product, cert)
 }
 
 // The answer of a demo, which loads no files.
@@ -137,10 +126,7 @@ fn demo_ending<R: Threads + Wait + Sync, G: Gate>(
     ensures unloaded { IsLoadEnding result → ⊥ }
     ensures names { failed_names [] [] [] result ≡ [] }
 {
-    match demo_answer(rt, alloc, d, gate) {
-        Ok(answer) => Ok(answer),
-        Err(_) => Err(Refusal::Memory),
-    }
+    Ok(demo_answer(rt, alloc, d, gate)?)
 }
 
 // The answer of a climb over two files.
@@ -148,28 +134,21 @@ fn climb_files<R: Threads + Wait + Sync, S: Shelf, G: Gate>(
     rt: &R,
     alloc: Global,
     shelf: &mut S,
-    left: &str,
-    right: &str,
     c: &Climb,
     gate: &G,
 ) -> Result<Reply, Refusal>
     requires { IsClimbWithin (climb_asked c.now) }
-    ensures ending { IsTrue S.tells → IsClimbEnding (S.file shelf.old left.now) (S.file shelf.old right.now) (climb_asked c.now) result }
+    ensures ending { IsTrue S.tells → IsClimbEnding (S.file shelf.old c.now.left.now) (S.file shelf.old c.now.right.now) (climb_asked c.now) result }
     ensures status { IfOk result (λ a. a.status ≤ 2) }
     ensures journal { IfOk result (λ a. HasJournal (ForClimb (climb_asked c.now)) a.status a.journal) }
     ensures failed { IsLoadEnding result → Rose (S.load_faults shelf.old) (S.load_faults shelf.new) }
     ensures files { S.file shelf.new ≡ S.file shelf.old }
-    ensures names { S.failed shelf.new ≡ appended (S.failed shelf.old) (failed_names left.now right.now [] result) }
+    ensures names { S.failed shelf.new ≡ appended (S.failed shelf.old) (failed_names c.now.left.now c.now.right.now [] result) }
     ensures load_count { S.load_faults shelf.old ≤ S.load_faults shelf.new }
     ensures store_count { S.store_faults shelf.new ≡ S.store_faults shelf.old }
 {
-    match load_pair(alloc, shelf, left, right, false) {
-        Err(unpaired) => Err(Refusal::Unpaired(unpaired)),
-        Ok(product) => match climb_pair(rt, alloc, &product, c, gate) {
-            Ok(answer) => Ok(answer),
-            Err(_) => Err(Refusal::Memory),
-        },
-    }
+    let product = load_pair(alloc, shelf, c.left, c.right, false)?;
+    Ok(climb_pair(rt, alloc, &product, c, gate)?)
 }
 
 // The answer of reducing a file's netlist.
@@ -177,26 +156,22 @@ fn reduce_file<R: Threads + Wait + Sync, S: Shelf, G: Gate>(
     rt: &R,
     alloc: Global,
     shelf: &mut S,
-    name: &str,
     r: &Reduce,
     gate: &G,
 ) -> Result<Reply, Refusal>
     requires { IsReduceWithin (reduce_asked r.now) }
-    ensures ending { IsTrue S.tells → IsReduceEnding (S.file shelf.old name.now) (reduce_asked r.now) result }
+    ensures ending { IsTrue S.tells → IsReduceEnding (S.file shelf.old r.now.net.now) (reduce_asked r.now) result }
     ensures status { IfOk result (λ a. a.status ≤ 2) }
     ensures journal { IfOk result (λ a. IsTrue (is_some a.journal)) }
     ensures failed { IsLoadEnding result → Rose (S.load_faults shelf.old) (S.load_faults shelf.new) }
     ensures files { S.file shelf.new ≡ S.file shelf.old }
-    ensures names { S.failed shelf.new ≡ appended (S.failed shelf.old) (failed_names name.now [] [] result) }
+    ensures names { S.failed shelf.new ≡ appended (S.failed shelf.old) (failed_names r.now.net.now [] [] result) }
     ensures load_count { S.load_faults shelf.old ≤ S.load_faults shelf.new }
     ensures store_count { S.store_faults shelf.new ≡ S.store_faults shelf.old }
 {
-    match load_netlist(alloc, shelf, name) {
+    match load_netlist(alloc, shelf, r.net) {
+        Ok(net) => Ok(reduce_net(rt, alloc, net, r, gate)?),
         Err(unread) => Err(Refusal::Unpaired(unread_as(Side::Left, unread))),
-        Ok(net) => match reduce_net(rt, alloc, net, r, gate) {
-            Ok(answer) => Ok(answer),
-            Err(_) => Err(Refusal::Memory),
-        },
     }
 }
 
@@ -219,12 +194,12 @@ fn decide<R: Threads + Wait + Sync, S: Shelf, G: Gate>(
     ensures store_count { S.store_faults shelf.new ≡ S.store_faults shelf.old }
 {
     match command {
-        Command::Check(c) => { check_files(rt, alloc, shelf, c.left, c.right, &c, gate) }
+        Command::Check(c) => check_files(rt, alloc, shelf, &c, gate),
         Command::Replay(c) => replay_files(alloc, shelf, c.left, c.right, c.trace, c.tied),
         Command::Verify(c) => verify_files(alloc, shelf, c.left, c.right, c.cert, c.tied),
         Command::Demo(d) => demo_ending(rt, alloc, &d, gate),
-        Command::Climb(c) => climb_files(rt, alloc, shelf, c.left, c.right, &c, gate),
-        Command::Reduce(r) => reduce_file(rt, alloc, shelf, r.net, &r, gate),
+        Command::Climb(c) => climb_files(rt, alloc, shelf, &c, gate),
+        Command::Reduce(r) => reduce_file(rt, alloc, shelf, &r, gate),
         Command::Batch(b) => batch_ending(rt, alloc, shelf, &b, gate),
     }
 }
@@ -265,30 +240,25 @@ fn refuse<E: Sink>(command: Command, refusal: &Refusal, err: &mut E) -> u8
     refusal_status(refusal)
 }
 
-// Does what a command asks for.
-fn perform<R: Threads + Wait + Sync, S: Shelf, O: Sink, E: Sink, G: Gate>(
-    rt: &R,
-    alloc: Global,
+// What becomes of a command's ending: an answer is delivered, and a refusal is told.
+fn conclude<S: Shelf, O: Sink, E: Sink>(
     command: Command,
+    ending: Result<Reply, Refusal>,
     shelf: &mut S,
     out: &mut O,
     err: &mut E,
-    gate: &G,
 ) -> Report
-    requires { IsWithin (asked_of command) }
-    ensures reported { (e : Ending) × Ended S.tells (S.file shelf.old) (asked_of command.entry) e × IfOk e (λ a. IsAnswerStatus (asked_of command.entry) a.status)
-        × IfOk e (λ a. HasJournal (asked_of command.entry) a.status a.journal) × (result.journal ≡ journal_of e)
-        × (IsLoadEnding e → Rose (S.load_faults shelf.old) (S.load_faults shelf.new))
-        × (S.failed shelf.new ≡ appended (S.failed shelf.old) (failed_names (left_name (asked_of command.entry)) (right_name (asked_of command.entry)) (third_name (asked_of command.entry)) e))
-        × IsReport S.tells (asked_of command.entry) e
-        (record { files = S.file shelf.old; store_faults = S.store_faults shelf.old; out = O.taken out.old; out_faults = O.faults out.old; err = E.taken err.old; err_faults = E.faults err.old })
-        (record { files = S.file shelf.new; store_faults = S.store_faults shelf.new; out = O.taken out.new; out_faults = O.faults out.new; err = E.taken err.new; err_faults = E.faults err.new }) result.status }
-    ensures load_count { S.load_faults shelf.old ≤ S.load_faults shelf.new }
+    ensures report { IsReport S.tells (asked_of command.entry) ending
+        (world_of (S.file shelf.old) (S.store_faults shelf.old) (O.taken out.old) (O.faults out.old) (E.taken err.old) (E.faults err.old))
+        (world_of (S.file shelf.new) (S.store_faults shelf.new) (O.taken out.new) (O.faults out.new) (E.taken err.new) (E.faults err.new)) result.status }
+    ensures journal { result.journal ≡ journal_of ending }
+    ensures names { S.failed shelf.new ≡ S.failed shelf.old }
+    ensures load_count { S.load_faults shelf.new ≡ S.load_faults shelf.old }
     ensures store_count { S.store_faults shelf.old ≤ S.store_faults shelf.new }
     ensures out_count { O.faults out.old ≤ O.faults out.new }
     ensures err_count { E.faults err.old ≤ E.faults err.new }
 {
-    match decide(rt, alloc, shelf, command, gate) {
+    match ending {
         Ok(answer) => {
             let status = deliver(command, &answer, shelf, out, err);
             let Reply { journal, .. } = answer;
@@ -336,28 +306,28 @@ pub fn run<R: Threads + Wait + Sync, S: Shelf, O: Sink, E: Sink, G: Gate>(
     // The headline: what is printed is what the command answers for the files, and what it stores is what it prints. The
     // numbers of `--stats` are those of the returned journal, which is that of the refinement.
     ensures answered { result.status ≤ 2 → IsSomeAnd (meant (texts words.now)) (λ c. IsAnswered S.tells c result.status result.journal
-        (record { files = S.file shelf.old; store_faults = S.store_faults shelf.old; out = O.taken out.old; out_faults = O.faults out.old; err = E.taken err.old; err_faults = E.faults err.old })
-        (record { files = S.file shelf.new; store_faults = S.store_faults shelf.new; out = O.taken out.new; out_faults = O.faults out.new; err = E.taken err.new; err_faults = E.faults err.new })) }
+        (world_of (S.file shelf.old) (S.store_faults shelf.old) (O.taken out.old) (O.faults out.old) (E.taken err.old) (E.faults err.old))
+        (world_of (S.file shelf.new) (S.store_faults shelf.new) (O.taken out.new) (O.faults out.new) (E.taken err.new) (E.faults err.new))) }
 
     // With `--least`, and without `--stats`, it is the only answer: what is printed, and the trace that is stored, are one function of
     // the files and the words.
     ensures one_answer { result.status ≤ 2 → IsSomeAnd (meant (texts words.now)) (λ c. IsOneAnswer S.tells c result.status
-        (record { files = S.file shelf.old; store_faults = S.store_faults shelf.old; out = O.taken out.old; out_faults = O.faults out.old; err = E.taken err.old; err_faults = E.faults err.old })
-        (record { files = S.file shelf.new; store_faults = S.store_faults shelf.new; out = O.taken out.new; out_faults = O.faults out.new; err = E.taken err.new; err_faults = E.faults err.new })) }
+        (world_of (S.file shelf.old) (S.store_faults shelf.old) (O.taken out.old) (O.faults out.old) (E.taken err.old) (E.faults err.old))
+        (world_of (S.file shelf.new) (S.store_faults shelf.new) (O.taken out.new) (O.faults out.new) (E.taken err.new) (E.faults err.new))) }
 
     // A refusal is true of the files, and told, and nothing is printed. A batch answers 4 too, where a pair of its list has no product.
     ensures refused { result.status ≡ 4 → IsSomeAnd (meant (texts words.now)) (λ c. IsRefusedOrBatch S.tells c result.journal
-        (record { files = S.file shelf.old; store_faults = S.store_faults shelf.old; out = O.taken out.old; out_faults = O.faults out.old; err = E.taken err.old; err_faults = E.faults err.old })
-        (record { files = S.file shelf.new; store_faults = S.store_faults shelf.new; out = O.taken out.new; out_faults = O.faults out.new; err = E.taken err.new; err_faults = E.faults err.new })) }
+        (world_of (S.file shelf.old) (S.store_faults shelf.old) (O.taken out.old) (O.faults out.old) (E.taken err.old) (E.faults err.old))
+        (world_of (S.file shelf.new) (S.store_faults shelf.new) (O.taken out.new) (O.faults out.new) (E.taken err.new) (E.faults err.new))) }
 
     // Reading fails only where the shelf did, and writing only where the shelf or the sink did.
     ensures load_rose { result.status ≡ 5 → Rose (S.load_faults shelf.old) (S.load_faults shelf.new) }
     ensures unread { result.status ≡ 5 → IsSomeAnd (meant (texts words.now)) (λ c. IsUnread S.tells c (S.failed shelf.old) (S.failed shelf.new)
-        (record { files = S.file shelf.old; store_faults = S.store_faults shelf.old; out = O.taken out.old; out_faults = O.faults out.old; err = E.taken err.old; err_faults = E.faults err.old })
-        (record { files = S.file shelf.new; store_faults = S.store_faults shelf.new; out = O.taken out.new; out_faults = O.faults out.new; err = E.taken err.new; err_faults = E.faults err.new })) }
+        (world_of (S.file shelf.old) (S.store_faults shelf.old) (O.taken out.old) (O.faults out.old) (E.taken err.old) (E.faults err.old))
+        (world_of (S.file shelf.new) (S.store_faults shelf.new) (O.taken out.new) (O.faults out.new) (E.taken err.new) (E.faults err.new))) }
     ensures unwritten { result.status ≡ 6 → IsSomeAnd (meant (texts words.now)) (λ c. IsUnwritten S.tells c result.journal
-        (record { files = S.file shelf.old; store_faults = S.store_faults shelf.old; out = O.taken out.old; out_faults = O.faults out.old; err = E.taken err.old; err_faults = E.faults err.old })
-        (record { files = S.file shelf.new; store_faults = S.store_faults shelf.new; out = O.taken out.new; out_faults = O.faults out.new; err = E.taken err.new; err_faults = E.faults err.new })) }
+        (world_of (S.file shelf.old) (S.store_faults shelf.old) (O.taken out.old) (O.faults out.old) (E.taken err.old) (E.faults err.old))
+        (world_of (S.file shelf.new) (S.store_faults shelf.new) (O.taken out.new) (O.faults out.new) (E.taken err.new) (E.faults err.new))) }
     ensures told_memory { result.status ≡ 7 → IsTold (E.taken err.old) (E.faults err.old) memory_text (E.taken err.new) (E.faults err.new) }
 
     // Without an answer there is no journal. Want of memory comes before an answer, and then there is none, or after it.
@@ -375,7 +345,10 @@ pub fn run<R: Threads + Wait + Sync, S: Shelf, O: Sink, E: Sink, G: Gate>(
     ensures err_count { E.faults err.old ≤ E.faults err.new }
 {
     match read_words(alloc, words) {
-        Ok(command) => perform(rt, alloc, command, shelf, out, err, gate),
+        Ok(command) => {
+            let ending = decide(rt, alloc, shelf, command, gate);
+            conclude(command, ending, shelf, out, err)
+        }
         Err(WordsFault::NotACommand) => {
             tell(err, USAGE.as_bytes());
             Report {

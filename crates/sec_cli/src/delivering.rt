@@ -4,7 +4,7 @@ ghost use Rattle.sec_base.specs.Faults.{Rose, appended, IsCutShort};
 ghost use Rattle.command_line.specs.Asked.{asked_of};
 ghost use Rattle.run_texts.specs.Texts.{write_failed_text};
 ghost use Rattle.run_texts.specs.Told.{IsTold};
-ghost use Rattle.sec_cli.specs.Reports.{IsDelivery, store_name};
+ghost use Rattle.sec_cli.specs.Reports.{IsDelivery, store_name, world_of};
 
 use crate::ending::Reply;
 use command_line::Command;
@@ -37,8 +37,8 @@ fn store_and_print<S: Shelf, O: Sink, E: Sink>(
     err: &mut E,
 ) -> u8
     ensures delivered { IsDelivery S.tells (Some name.now) answer.now
-        (record { files = S.file shelf.old; store_faults = S.store_faults shelf.old; out = O.taken out.old; out_faults = O.faults out.old; err = E.taken err.old; err_faults = E.faults err.old })
-        (record { files = S.file shelf.new; store_faults = S.store_faults shelf.new; out = O.taken out.new; out_faults = O.faults out.new; err = E.taken err.new; err_faults = E.faults err.new }) result }
+        (world_of (S.file shelf.old) (S.store_faults shelf.old) (O.taken out.old) (O.faults out.old) (E.taken err.old) (E.faults err.old))
+        (world_of (S.file shelf.new) (S.store_faults shelf.new) (O.taken out.new) (O.faults out.new) (E.taken err.new) (E.faults err.new)) result }
     ensures names { S.failed shelf.new ≡ S.failed shelf.old }
     ensures load_count { S.load_faults shelf.new ≡ S.load_faults shelf.old }
     ensures store_count { S.store_faults shelf.old ≤ S.store_faults shelf.new }
@@ -65,9 +65,9 @@ fn store_name<'w>(command: Command<'w>, status: u8) -> Option<&'w str>
     match command {
         Command::Check(c) => {
             if status == 1 {
-                c.trace
+                c.options.trace
             } else if status == 0 {
-                c.cert
+                c.options.cert
             } else {
                 None
             }
@@ -90,8 +90,8 @@ pub(crate) fn deliver<S: Shelf, O: Sink, E: Sink>(
     err: &mut E,
 ) -> u8
     ensures delivered { IsDelivery S.tells (store_name (asked_of command.entry) answer.now.status) answer.now
-        (record { files = S.file shelf.old; store_faults = S.store_faults shelf.old; out = O.taken out.old; out_faults = O.faults out.old; err = E.taken err.old; err_faults = E.faults err.old })
-        (record { files = S.file shelf.new; store_faults = S.store_faults shelf.new; out = O.taken out.new; out_faults = O.faults out.new; err = E.taken err.new; err_faults = E.faults err.new }) result }
+        (world_of (S.file shelf.old) (S.store_faults shelf.old) (O.taken out.old) (O.faults out.old) (E.taken err.old) (E.faults err.old))
+        (world_of (S.file shelf.new) (S.store_faults shelf.new) (O.taken out.new) (O.faults out.new) (E.taken err.new) (E.faults err.new)) result }
     ensures names { S.failed shelf.new ≡ S.failed shelf.old }
     ensures load_count { S.load_faults shelf.new ≡ S.load_faults shelf.old }
     ensures store_count { S.store_faults shelf.old ≤ S.store_faults shelf.new }

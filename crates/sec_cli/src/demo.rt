@@ -3,12 +3,12 @@ ghost use Rattle.std.specs.Prelude.{◌≤◌, ◌≡◌, ◌++◌, false, IfOk,
 ghost use Rattle.circ_model.specs.Meaning.{IsSoundPair};
 ghost use Rattle.demo_pair.specs.Demo.{IsDemo};
 ghost use Rattle.run_texts.specs.Lines.{demo_line};
-ghost use Rattle.command_line.specs.Asked.{IsDemoWithin, check_asked};
+ghost use Rattle.command_line.specs.Asked.{IsDemoWithin, options_asked};
 ghost use Rattle.sec_cli.specs.Answers.{IsDemoAnswer, check_of_demo, is_refined};
 
 use crate::checking::check_pair;
 use crate::ending::Reply;
-use command_line::{Check, Demo};
+use command_line::{CheckOptions, Demo};
 use demo_pair::make_demo;
 use product_machine::Product;
 use run_texts::demo_line;
@@ -23,19 +23,14 @@ fn demo_product(alloc: Global, n: u32) -> Result<Product, AllocError>
     ensures { IfOk result (λ p. IsDemo n p.left p.right × (p.tied ≡ false)) }
 {
     let (left, right) = make_demo(alloc, n)?;
-    match Product::new(alloc, left, right) {
-        Ok(product) => Ok(product),
-        Err(_) => Err(AllocError),
-    }
+    Product::new(alloc, left, right).map_err(|_| AllocError)
 }
 
 // The check of a demo's pair.
-fn check_of(d: &Demo) -> Check<'static>
-    ensures { check_asked result ≡ check_of_demo d.now }
+fn check_of(d: &Demo) -> CheckOptions<'static>
+    ensures { options_asked result ≡ check_of_demo d.now }
 {
-    Check {
-        left: "",
-        right: "",
+    CheckOptions {
         k: d.k,
         depth: d.k,
         workers: d.workers,

@@ -1,9 +1,14 @@
 //! How a command ends: with an answer, or with why there is none.
+ghost use Rattle.std.specs.Prelude.{◌≡◌};
+ghost use Rattle.sec_cli.specs.Endings.{refusal_of};
+ghost use Rattle.sec_cli.specs.declared.ending.Refusal.TheVariants as refusals;
+
 use batch_run::Unanswered;
 use corr_certificate::CertFault;
 use pair_files::Unpaired;
 use refine_board::Journal;
-use trace_witness::TraceFault;
+use std::alloc::AllocError;
+use trace_witness::{TraceError, TraceFault};
 
 /// What a command answers.
 #[derive(Drop)]
@@ -34,4 +39,39 @@ pub enum Refusal {
     CertRefused(CertFault),
     /// There are no answers of a list's pairs.
     Unanswered(Unanswered),
+}
+
+impl From<AllocError> for Refusal {
+    ghost from_gives = { λ _ r. r ≡ refusals.Memory };
+
+    fn from(_: AllocError) -> Refusal {
+        Refusal::Memory
+    }
+}
+
+impl From<Unpaired> for Refusal {
+    ghost from_gives = { λ u r. r ≡ refusals.Unpaired u };
+
+    fn from(unpaired: Unpaired) -> Refusal {
+        Refusal::Unpaired(unpaired)
+    }
+}
+
+impl From<Unanswered> for Refusal {
+    ghost from_gives = { λ u r. r ≡ refusals.Unanswered u };
+
+    fn from(unanswered: Unanswered) -> Refusal {
+        Refusal::Unanswered(unanswered)
+    }
+}
+
+impl From<TraceError> for Refusal {
+    ghost from_gives = { λ e r. r ≡ refusal_of e };
+
+    fn from(error: TraceError) -> Refusal {
+        match error {
+            TraceError::Refused(fault) => Refusal::TraceRefused(fault),
+            TraceError::Memory => Refusal::Memory,
+        }
+    }
 }

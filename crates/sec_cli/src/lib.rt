@@ -12,8 +12,9 @@ mod ending;
 mod reducing;
 mod replaying;
 mod telling;
+mod third;
 mod verifying;
 
 pub use command::{Report, run};
-pub use ending::{Reply, Refusal};
+pub use ending::{Refusal, Reply};
 pub use pair_files::{Side, Unpaired};

@@ -25,13 +25,8 @@ use std::thread::Threads;
 fn beside_stub(alloc: Global, net: Netlist) -> Result<Product, AllocError>
     ensures { IfOk result (λ p. p ≡ beside_stub net) }
 {
-    match stub(alloc, &net) {
-        Ok(other) => match Product::new(alloc, net, other) {
-            Ok(product) => Ok(product),
-            Err(_) => Err(AllocError),
-        },
-        Err(_) => Err(AllocError),
-    }
+    let other = stub(alloc, &net)?;
+    Product::new(alloc, net, other).map_err(|_| AllocError)
 }
 
 // The bytes that are stored of a netlist.
@@ -129,8 +124,6 @@ pub(crate) fn reduce_net<R: Threads + Wait + Sync, G: Gate>(
     ensures status { IfOk result (λ a. a.status ≤ 2) }
     ensures journal { IfOk result (λ a. IsTrue (is_some a.journal)) }
 {
-    match beside_stub(alloc, net) {
-        Ok(product) => reduce_pair(rt, alloc, &product, r, gate),
-        Err(_) => Err(AllocError),
-    }
+    let product = beside_stub(alloc, net)?;
+    reduce_pair(rt, alloc, &product, r, gate)
 }

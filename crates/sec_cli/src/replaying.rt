@@ -3,16 +3,15 @@ ghost use Rattle.std.specs.Prelude.{◌≡◌, ◌≤◌, ◌<◌, ◌^◌, ℕ,
 ghost use Rattle.sec_base.specs.Faults.{Rose, appended};
 ghost use Rattle.circ_model.specs.Meaning.{IsRun};
 ghost use Rattle.sec_cli.specs.Answers.{IsReplayOf};
-ghost use Rattle.sec_cli.specs.Endings.{IsReplayed, IsReplayedAs, IsOfPair, IsLoadEnding, failed_third};
+ghost use Rattle.sec_cli.specs.Endings.{IsReplayed, IsReplayedAs, IsOfPair, IsLoadEnding, failed_third, longest_third};
 
-use crate::ending::{Reply, Refusal};
+use crate::ending::{Refusal, Reply};
+use crate::third::load_third;
 use product_machine::{Path, Product, Scratch};
 use run_texts::{agrees_line, differs_line};
-use sec_base::{LoadFault, Shelf};
+use sec_base::Shelf;
 use std::alloc::{AllocError, Global};
-use trace_witness::{TraceError, first_difference, read_trace};
-
-const LONGEST_THIRD: u64 = 1099511627776;
+use trace_witness::{first_difference, read_trace};
 
 // What a run shows.
 fn answer_of(alloc: Global, product: &Product, run: &Path) -> Result<Reply, AllocError>
@@ -37,21 +36,15 @@ fn answer_of(alloc: Global, product: &Product, run: &Path) -> Result<Reply, Allo
 
 // What the bytes of a trace show.
 fn replay_bytes(alloc: Global, product: &Product, bytes: &[u8]) -> Result<Reply, Refusal>
-    requires { length bytes.now ≤ 1099511627776 }
+    requires { length bytes.now ≤ longest_third }
     ensures replayed { IsReplayedAs product.now bytes.now result }
     ensures status { IfOk result (λ a. a.status ≤ 2) }
     ensures journal { IfOk result (λ a. a.journal ≡ None) }
     ensures no_pair { IsOfPair result }
     ensures loaded { IsLoadEnding result → ⊥ }
 {
-    match read_trace(alloc, product, bytes) {
-        Ok(trace) => match answer_of(alloc, product, &trace.run) {
-            Ok(answer) => Ok(answer),
-            Err(_) => Err(Refusal::Memory),
-        },
-        Err(TraceError::Refused(fault)) => Err(Refusal::TraceRefused(fault)),
-        Err(TraceError::Memory) => Err(Refusal::Memory),
-    }
+    let trace = read_trace(alloc, product, bytes)?;
+    Ok(answer_of(alloc, product, &trace.run)?)
 }
 
 /// How the replay of a trace's file on a pair ends.
@@ -71,11 +64,6 @@ pub(crate) fn replay<S: Shelf>(
     ensures load_count { S.load_faults shelf.old ≤ S.load_faults shelf.new }
     ensures store_count { S.store_faults shelf.new ≡ S.store_faults shelf.old }
 {
-    let mut bytes = Vec::new(alloc);
-    match shelf.load(name, LONGEST_THIRD, &mut bytes) {
-        Ok(()) => replay_bytes(alloc, product, bytes.as_slice()),
-        Err(LoadFault::TooLong) => Err(Refusal::ThirdTooLong),
-        Err(LoadFault::Failed) => Err(Refusal::ThirdFailed),
-        Err(LoadFault::Memory) => Err(Refusal::Memory),
-    }
+    let bytes = load_third(alloc, shelf, name)?;
+    replay_bytes(alloc, product, bytes.as_slice())
 }

@@ -5,14 +5,13 @@ ghost use Rattle.sec_cli.specs.Texts.{trace_fault_text, name_of_cert_kind, cert_
 ghost use Rattle.sec_cli.specs.Reports.{refusal_status, refusal_text};
 
 use crate::ending::Refusal;
+use crate::third::LONGEST_THIRD;
 use aiger_codec::{NetFault, NetKind};
 use batch_run::{tell_unanswered, unanswered_status};
 use corr_certificate::{CertFault, CertKind};
 use run_texts::{tell, tell_fault, tell_line_fault, tell_unpaired, tell_unread, unpaired_status};
 use sec_base::Sink;
 use trace_witness::TraceFault;
-
-const LONGEST_THIRD: u64 = 1099511627776;
 
 // Tells the first fault of a trace.
 fn tell_trace_fault<E: Sink>(err: &mut E, name: &[u8], fault: TraceFault)

@@ -4,13 +4,12 @@ ghost use Rattle.sec_base.specs.Faults.{Rose, appended};
 ghost use Rattle.sec_cli.specs.Texts.{verified_line};
 ghost use Rattle.sec_cli.specs.Endings.{IsVerified, IsVerifiedAs, IsOfPair, IsLoadEnding, failed_third};
 
-use crate::ending::{Reply, Refusal};
+use crate::ending::{Refusal, Reply};
+use crate::third::load_third;
 use corr_certificate::{Checked, verify};
 use product_machine::Product;
-use sec_base::{LoadFault, Shelf};
+use sec_base::Shelf;
 use std::alloc::{AllocError, Global};
-
-const LONGEST_THIRD: u64 = 1099511627776;
 
 // The answer where there is no fault.
 fn verified(alloc: Global) -> Result<Reply, AllocError>
@@ -33,13 +32,9 @@ fn verify_bytes(alloc: Global, product: &Product, bytes: &[u8]) -> Result<Reply,
     ensures no_pair { IsOfPair result }
     ensures loaded { IsLoadEnding result → ⊥ }
 {
-    match verify(alloc, product, bytes) {
-        Ok(Checked::Yes) => match verified(alloc) {
-            Ok(answer) => Ok(answer),
-            Err(_) => Err(Refusal::Memory),
-        },
-        Ok(Checked::No(fault)) => Err(Refusal::CertRefused(fault)),
-        Err(_) => Err(Refusal::Memory),
+    match verify(alloc, product, bytes)? {
+        Checked::Yes => Ok(verified(alloc)?),
+        Checked::No(fault) => Err(Refusal::CertRefused(fault)),
     }
 }
 
@@ -60,11 +55,6 @@ pub(crate) fn verify_file<S: Shelf>(
     ensures load_count { S.load_faults shelf.old ≤ S.load_faults shelf.new }
     ensures store_count { S.store_faults shelf.new ≡ S.store_faults shelf.old }
 {
-    let mut bytes = Vec::new(alloc);
-    match shelf.load(name, LONGEST_THIRD, &mut bytes) {
-        Ok(()) => verify_bytes(alloc, product, bytes.as_slice()),
-        Err(LoadFault::TooLong) => Err(Refusal::ThirdTooLong),
-        Err(LoadFault::Failed) => Err(Refusal::ThirdFailed),
-        Err(LoadFault::Memory) => Err(Refusal::Memory),
-    }
+    let bytes = load_third(alloc, shelf, name)?;
+    verify_bytes(alloc, product, bytes.as_slice())
 }
