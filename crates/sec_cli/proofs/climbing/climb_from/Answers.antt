@@ -1,4 +1,4 @@
-use Rattle.std.proofs.Common.{◌≡◌, ◌<◌, ℕ, subst, sym, refl, arith}
+use Rattle.std.proofs.Common.{◌≡◌, ◌<◌, ◌+◌, ℕ, subst, sym, refl, arith}
 use Rattle.command_line.specs.Asked.{ClimbAsked, OptionsAsked, climb_asked, options_asked}
 use Rattle.circ_model.specs.Meaning.{Pair}
 use Rattle.sec_cli.specs.Answers.{IsCheckAnswer}
@@ -7,7 +7,7 @@ use Rattle.sec_cli.proofs.Depths.{IsSoFar, check_within, goes_on, ends}
 use Rattle.sec_cli.proofs.climbing.climb_from.Goals as goal
 
 pub try_depth-requires-clause-within : goal.try_depth-requires-clause-within
-try_depth-requires-clause-within g c =
+try_depth-requires-clause-within g c = λ lives fits.
     let asked : ClimbAsked = climb_asked c.args.c.now in
     check_within asked c.loop-k.k (options_asked c.check_of.result) c.requires.within (omega arith) (omega arith) c.check_of.ensures.asked
 
@@ -28,7 +28,7 @@ loop-k-preserved g c =
     )
 
 pub check_beyond-requires-clause-within : goal.check_beyond-requires-clause-within
-check_beyond-requires-clause-within g c =
+check_beyond-requires-clause-within g c = λ lives fits.
     let asked : ClimbAsked = climb_asked c.args.c.now in
     check_within asked asked.most (options_asked c.check_of-2.result) c.requires.within c.requires.within.some (omega arith) c.check_of-2.ensures.asked
 
