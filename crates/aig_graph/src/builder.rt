@@ -1,3 +1,4 @@
+//! What a netlist is built from, call by call.
 ghost use Rattle.std.specs.Prelude.{◌≡◌, ◌≤◌, ◌<◌, ◌*◌, [], IfOk, Some, length};
 ghost use Rattle.aig_graph.specs.Finish.{Finishes};
 ghost use Rattle.aig_graph.specs.Given.{Adds, with_input, with_latch, with_output, with_gate, reset_of};

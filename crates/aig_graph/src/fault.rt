@@ -1,3 +1,4 @@
+//! Why a netlist is refused.
 ghost use Rattle.std.specs.Prelude.{◌≡◌};
 ghost use Rattle.aig_graph.specs.declared.fault.BuildFault.TheVariants.{Memory};
 

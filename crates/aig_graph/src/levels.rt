@@ -1,3 +1,4 @@
+//! The level of each gate: one more than the higher of its literals' levels; leaves have level 0.
 ghost use Rattle.std.specs.Prelude.{◌≡◌, ◌≤◌, ◌<◌, ◌/◌, ◌++◌, ◌∷◌, [], ◌-◌, ◌+◌, max, true, ℕ, ◌^◌, map, length, take, set, slice_index, MatchOption, IfOk, vec_len};
 ghost use Rattle.aig_graph.specs.Walk.{no_gate, gate_in, var_in, Uses, IsDone, Indexes, Walk, Turns, Turned, Keeps, Meets, Between, SettlesOr, IsCyclic, IsLevels, AreLevels, first_level};
 

@@ -1,3 +1,4 @@
+//! Netlists that are sound, and the values of their literals in a row.
 ghost use Rattle.std.specs.Prelude.{◌≡◌, ◌<◌, ◌≤◌, ◌+◌, ◌*◌, ◌/◌, ◌%◌, ℕ, List, Bool, false, length, slice_index, slice_index_or, Contains};
 ghost use Rattle.circ_model.specs.Netlist.{own, variables, IsSound, IsDefined};
 ghost use Rattle.circ_model.specs.Meaning.{bit, literal_value, product, value};

@@ -1,3 +1,4 @@
+//! The order in which gates stand.
 ghost use Rattle.std.specs.Prelude.{◌≡◌, OnOk};
 ghost use Rattle.std.specs.List.Sorted.{IsPermutation, IsNonDecreasingBy};
 ghost use Rattle.aig_graph.specs.Walk.{key_of};

@@ -1,3 +1,4 @@
+//! The lowest variable that is used and not defined.
 ghost use Rattle.std.specs.Prelude.{◌≡◌, ◌<◌, ◌/◌, ◌++◌, map, length};
 ghost use Rattle.std.specs.List.{All};
 ghost use Rattle.circ_model.specs.declared.netlist.Latch.{Latch};

@@ -1,3 +1,4 @@
+//! The body of a binary file.
 ghost use Rattle.std.specs.Prelude.{◌≡◌, ◌+◌, ◌≤◌, ◌<◌, ◌^◌, IfOk};
 ghost use Rattle.aiger_codec.specs.Sections.{items_at, Reads, ReadsBody};
 ghost use Rattle.aiger_binary.specs.Binary.{of_inputs, latch_at, gate_at, each_from, binary_at};

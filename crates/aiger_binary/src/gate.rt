@@ -1,4 +1,4 @@
-// The gates of a binary body: two numbers each.
+//! The gates of a binary body: two numbers each.
 ghost use Rattle.std.specs.Prelude.{◌≡◌, ◌+◌, ◌<◌, ◌^◌};
 ghost use Rattle.aiger_codec.specs.Deltas.{delta_at};
 ghost use Rattle.aiger_codec.specs.Sections.{Reads, Fails};
@@ -36,18 +36,12 @@ fn read_gate(var: u32, bytes: &[u8], at: u64, builder: &mut NetBuilder) -> Resul
     }
     match builder.gate(
         var,
-        literal_of(own - first),
-        literal_of(own - first - second),
+        Lit::from_number(own - first),
+        Lit::from_number(own - first - second),
     ) {
         Err(fault) => Err(error_of(fault, at)),
         Ok(()) => Ok(end),
     }
-}
-
-fn literal_of(number: u32) -> Lit
-    ensures { result ≡ number }
-{
-    Lit::of(number / 2, number % 2 == 1)
 }
 
 // So many gates from a variable up, and the place after their numbers.

@@ -1,4 +1,4 @@
-// The latches of a binary body: a line each, of the next literal and perhaps a reset.
+//! The latches of a binary body: a line each, of the next literal and perhaps a reset.
 ghost use Rattle.std.specs.Prelude.{◌≡◌, ◌+◌, ◌<◌, ◌^◌};
 ghost use Rattle.aiger_codec.specs.Sections.{Reads, Fails};
 ghost use Rattle.aiger_binary.specs.Binary.{latch_at, each_from};

@@ -1,16 +1,9 @@
 -- New numbers for the variables of a sound netlist: what the table says, and that each gate's own is the greatest.
-use Rattle.std.proofs.Common.{◌≡◌, ◌≢◌, ◌∙◌, ◌<◌, ◌≤◌, ◌+◌, ◌==◌, ⊎_elim, ℕ, suc, true, List, [], ◌∷◌, length, get_or, set, ap, sym, arith}
-use Rattle.std.specs.List.{list_any}
-use Rattle.std.proofs.lemmas.Bool.{cases_eq, or_cases, eqb-true}
-use Rattle.std.proofs.lemmas.Bool.Decides.{Decides-eqb}
-use Rattle.std.proofs.lemmas.List.{get_or_default, length-set, get_or-set_same, get_or-set_other}
+use Rattle.std.proofs.Common.{◌≡◌, ◌≢◌, ◌∙◌, ◌<◌, ◌+◌, ⊎_elim, ℕ, List, length, get_or, set, arith}
+use Rattle.std.proofs.lemmas.Bool.{cases_eq}
+use Rattle.std.proofs.lemmas.List.{length-set, get_or-set_same, get_or-set_other}
 use Rattle.std.proofs.lemmas.List.Elements.{All-set}
-use Rattle.std.proofs.lemmas.Map.Made.{IsDistinct-from_AllPairs}
-use Rattle.std.proofs.lemmas.Map.Steps.{length-le_from_distinct_below}
-use Rattle.circ_model.specs.declared.netlist.Gate.{Gate}
-use Rattle.circ_model.specs.Netlist.{Netlist, IsSound, variables, no_gate}
-use Rattle.circ_model.proofs.Order.{gate_variable, length_variables}
-use Rattle.circ_model.proofs.Rows.{length_leaves}
+use Rattle.circ_model.specs.Netlist.{Netlist, IsSound, variables}
 use Rattle.aiger_codec.specs.Renumbering.{IsNumbering}
 
 -- one variable more

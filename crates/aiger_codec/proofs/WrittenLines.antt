@@ -1,8 +1,7 @@
 -- A line that is written is one of the grammar.
-use Rattle.std.proofs.Common.{◌≡◌, ℕ, ◌<◌, List, [], ◌∷◌, refl, arith, decimal}
+use Rattle.std.proofs.Common.{ℕ, ◌<◌, List, [], ◌∷◌, refl, decimal}
 use Rattle.std.specs.List.{AllByRecursion}
 use Rattle.plain_text.proofs.Again.{number_spelled}
-use Rattle.plain_text.specs.Numbers.{SpellsNumber}
 use Rattle.aiger_codec.specs.Grammar.{SpellsLine}
 use Rattle.aiger_codec.specs.Writing.{more_text, line_text}
 

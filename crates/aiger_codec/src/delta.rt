@@ -1,4 +1,4 @@
-// Numbers of the binary form: seven bits a byte, lowest first, and bit 7 set where another byte follows.
+//! Numbers of the binary form: seven bits a byte, lowest first, and bit 7 set where another byte follows.
 ghost use Rattle.std.specs.Prelude.{◌≡◌, ◌<◌, ◌++◌, OnOk, OnErr};
 ghost use Rattle.aiger_codec.specs.Deltas.{delta_at, shortest};
 

@@ -1,4 +1,4 @@
-// The header, read and checked in the order in which its faults come.
+//! The header, read and checked in the order in which its faults come.
 ghost use Rattle.std.specs.Prelude.{◌≡◌, ◌≤◌, ◌<◌, take, length, slice_index, MatchOption, IfSome, IfOk, Some, None};
 ghost use Rattle.aiger_codec.specs.Header.{form_of, header_numbers, refused, checked, header_at, IsWithinLimits};
 

@@ -1,4 +1,4 @@
-// What is true of the spellings: each is read again, and nothing else is read.
+//! What is true of the spellings: each is read again, and nothing else is read.
 ghost use Rattle.aiger_codec.specs.Laws.{NumberIsSpelled, SpelledNumberIsRead, LineIsSpelled, SpelledLineIsRead, DeltaIsSpelled, SpelledDeltaIsRead, ShortestIsSpelled, NoneIsShorter, HeaderIsSpelled, SpelledHeaderIsRead, SymbolsAreSpelled, SpelledSymbolsAreRead};
 
 /// Decimal numbers and lines of them, both ways.

@@ -1,4 +1,4 @@
-// Lines of numbers. They go into an array that outlives the lines, so that a line costs no memory.
+//! Lines of numbers. They go into an array that outlives the lines, so that a line costs no memory.
 ghost use Rattle.std.specs.Prelude.{◌≡◌, ◌≤◌, ◌<◌, take, drop, length, MatchOption, MatchResult, IfSome, Some, None, Ok, Err, IsTrue};
 ghost use Rattle.plain_text.specs.Numbers.{number_at};
 ghost use Rattle.aiger_codec.specs.Lines.{has_end, numbers_at, line_at};

@@ -1,5 +1,5 @@
-// New numbers for the variables of a netlist: the inputs, the latches and the gates from 1 up, in their order. They stand
-// in a table, an entry for each variable.
+//! New numbers for the variables of a netlist: the inputs, the latches and the gates from 1 up, in their order. They stand
+//! in a table, an entry for each variable.
 ghost use Rattle.std.specs.Prelude.{◌≡◌, ◌<◌, ◌≤◌, ◌/◌, IfOk, length, slice_index};
 ghost use Rattle.circ_model.specs.Netlist.{IsSound, variables};
 ghost use Rattle.circ_model.specs.Meaning.{literal_by};

@@ -1,4 +1,4 @@
-// The sections of a body: how many numbers a line of each has, and their lines, read into the builder of a netlist.
+//! The sections of a body: how many numbers a line of each has, and their lines, read into the builder of a netlist.
 ghost use Rattle.std.specs.Prelude.{◌≡◌, ◌<◌, ◌≤◌, ◌/◌, length, take, slice_index, true, Ok, Err, if◌then◌else◌};
 ghost use Rattle.circ_model.specs.Meaning.{is_odd};
 ghost use Rattle.aig_graph.specs.Given.{Adds};
@@ -49,8 +49,7 @@ pub fn literal(numbers: &[u32; 9], count: usize, place: usize) -> Lit
     requires { place < 9 }
     ensures { result ≡ slice_index (take count numbers.now) place }
 {
-    let number = number_or_none(numbers, count, place);
-    Lit::of(number / 2, number % 2 == 1)
+    Lit::from_number(number_or_none(numbers, count, place))
 }
 
 fn add(

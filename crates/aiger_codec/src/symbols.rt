@@ -1,4 +1,4 @@
-// What stands after the body: symbol lines, whose names are not kept, and a comment, which is not read.
+//! What stands after the body: symbol lines, whose names are not kept, and a comment, which is not read.
 ghost use Rattle.std.specs.Prelude.{◌≡◌, ◌<◌, ◌≤◌, drop, length, IfSome};
 ghost use Rattle.aiger_codec.specs.Symbols.{first_end, count_of, symbol_at, symbols_at};
 

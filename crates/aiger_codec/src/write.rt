@@ -1,5 +1,5 @@
-// A netlist as the text of a file. Numbers go through an array of the longest number's length, so that a line costs no
-// memory but its bytes.
+//! A netlist as the text of a file. Numbers go through an array of the longest number's length, so that a line costs no
+//! memory but its bytes.
 ghost use Rattle.std.specs.Prelude.{◌≡◌, ◌++◌, ◌∷◌, [], length, decimal, OnOk, IfOk};
 ghost use Rattle.aiger_codec.specs.Writing.{more_text, line_text, lines_text, input_text, reset_numbers, latch_text, output_text, gate_text, net_text};
 

@@ -1,5 +1,5 @@
-// A netlist as the bytes of a binary file. The variables are numbered anew, since the form tells a variable by its place
-// alone: each input, latch and gate is the next one.
+//! A netlist as the bytes of a binary file. The variables are numbered anew, since the form tells a variable by its place
+//! alone: each input, latch and gate is the next one.
 ghost use Rattle.std.specs.Prelude.{◌≡◌, ◌<◌, ◌++◌, map, All, OnOk, IfOk};
 ghost use Rattle.circ_model.specs.Meaning.{literal_by};
 ghost use Rattle.aiger_codec.specs.Writing.{lines_text, output_text};

@@ -1,3 +1,4 @@
+//! A whole file: its header, its body in either form, and what stands after it.
 ghost use Rattle.std.specs.Prelude.{◌≡◌, Result};
 ghost use Rattle.aig_graph.specs.Finish.{Finishes};
 ghost use Rattle.aiger_codec.specs.Header.{IsWithinLimits};

@@ -1,4 +1,4 @@
-// Laws on what a file means. Each function has an empty body; its contract is the law.
+//! Laws on what a file means. Each function has an empty body; its contract is the law.
 ghost use Rattle.aiger_file.specs.Grammar.{FileIsSpelled, SpelledFileIsRead};
 ghost use Rattle.aiger_file.specs.Written.{WrittenTextIsRead, WrittenBinaryIsSpelled, WrittenBinaryIsRead};
 ghost use Rattle.aiger_file.specs.Readings.{HasOneReading, OneNetlist, OneFirstFault, NeverBoth};

@@ -12,10 +12,10 @@ use Rattle.aig_graph.proofs.Definitions.{defined_here}
 use Rattle.aiger_codec.specs.declared.header.Header.{Header}
 use Rattle.aiger_codec.specs.declared.section.Section.{Section}
 use Rattle.aiger_codec.specs.declared.section.Section.TheVariants.{Inputs, Latches, Outputs, Gates}
-use Rattle.aiger_codec.specs.Sections.{items_at, body_at, nothing_given}
-use Rattle.aiger_codec.specs.SectionGrammar.{Item, IsLine, SpellsSection, MayBeGiven}
+use Rattle.aiger_codec.specs.Sections.{body_at, nothing_given}
+use Rattle.aiger_codec.specs.SectionGrammar.{Item, MayBeGiven}
 use Rattle.aiger_text.specs.Grammar.{SpellsBody}
-use Rattle.aiger_codec.proofs.Items.{with_item, with_items, IsFree, MayAdd, MayAll, all_added, inputs_given, latches_given, outputs_given, gates_given}
+use Rattle.aiger_codec.proofs.Items.{with_item, IsFree, MayAdd, MayAll, inputs_given, latches_given, outputs_given, gates_given}
 use Rattle.aiger_codec.proofs.SectionItems.{section_again, whole}
 
 -- ---- the variables grow at their end

@@ -1,14 +1,10 @@
 -- The whole body: what was read is spelled so, and what is spelled so is read.
-use Rattle.std.proofs.Common.{◌≡◌, ◌∙◌, ℕ, ◌+◌, ◌≤◌, List, [], ◌∷◌, ◌++◌, length, drop, Ok, refl, sym, ap, subst, arith, append_assoc, length-append}
-use Rattle.std.specs.List.{AllZip}
-use Rattle.circ_model.specs.declared.netlist.Latch.{Latch}
-use Rattle.circ_model.specs.declared.netlist.Gate.{Gate}
+use Rattle.std.proofs.Common.{◌≡◌, ◌∙◌, ℕ, ◌+◌, ◌≤◌, List, [], ◌++◌, length, drop, Ok, refl, sym, ap, subst, arith, append_assoc, length-append}
 use Rattle.circ_model.specs.Netlist.{Netlist}
 use Rattle.aiger_codec.specs.declared.header.Header.{Header}
-use Rattle.aiger_codec.specs.declared.section.Section.{Section}
 use Rattle.aiger_codec.specs.declared.section.Section.TheVariants.{Inputs, Latches, Outputs, Gates}
 use Rattle.aiger_codec.specs.Sections.{items_at, body_at, nothing_given}
-use Rattle.aiger_codec.specs.SectionGrammar.{Item, IsLine, SpellsSection, MayBeGiven}
+use Rattle.aiger_codec.specs.SectionGrammar.{MayBeGiven}
 use Rattle.aiger_text.specs.Grammar.{SpellsBody, IsSpelled}
 use Rattle.aiger_codec.proofs.Room.{bind_is}
 use Rattle.aiger_codec.proofs.SectionItems.{taken, whole}

@@ -1,3 +1,4 @@
+//! The body of a text file.
 ghost use Rattle.std.specs.Prelude.{◌≡◌, ◌≤◌, ◌<◌, ◌^◌, IfOk};
 ghost use Rattle.aiger_text.specs.Grammar.{IsSpelled, SpelledIsRead};
 ghost use Rattle.aiger_codec.specs.Sections.{body_at, items_at, ReadsBody, Reads, nothing_given};

@@ -1,3 +1,4 @@
+//! Classes of places, up to complement.
 ghost use Rattle.std.specs.Prelude.{◌≡◌, ◌<◌, ◌≤◌, ◌+◌, ◌/◌, ◌↔◌, ℕ, IsTrue, length, IfOk, OnOk, OnErr};
 ghost use Rattle.class_partition.specs.Classes.{least_of, phase_of, ArePartition, AreTogether, Pairs, IsSplit, one_class, class_count, split_of, HoldIn, IsNextNeeded, needed};
 ghost use Rattle.class_partition.specs.Steps.{classes_of};

@@ -1,4 +1,4 @@
-// How many classes least places make.
+//! How many classes least places make.
 ghost use Rattle.std.specs.Prelude.{◌≡◌, ◌<◌, ◌^◌, [], length};
 ghost use Rattle.class_partition.specs.Classes.{class_count};
 ghost use Rattle.class_partition.specs.Steps.{classes_of};

@@ -1,4 +1,4 @@
-// The command that is given to clap: a required subcommand for each line of the usage text. Its own help is clap's.
+//! The command that is given to clap: a required subcommand for each line of the usage text. Its own help is clap's.
 ghost use Rattle.std.specs.Prelude.{◌≡◌, [], ◌∷◌, codes, false, IfOk};
 ghost use Rattle.clap.specs.Words.{App, new_app, rule_of};
 ghost use Rattle.command_line.specs.App.{name, size, number, depth, search_depth, most, workers, file, flag, name_rule, option_rule, check_app, replay_app, verify_app, demo_app, climb_app, reduce_app, batch_app, sec_app, part_rule, with_parts, subcommand_app, with_subcommands, IsCommand};

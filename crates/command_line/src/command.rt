@@ -1,4 +1,4 @@
-// What the words of a run ask for. In contracts a command is seen with its names as texts: `asked_of`.
+//! What the words of a run ask for. In contracts a command is seen with its names as texts: `asked_of`.
 
 /// The greatest depth of the induction.
 pub(crate) const MOST_DEPTH: u32 = 16;

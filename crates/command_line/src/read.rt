@@ -1,4 +1,4 @@
-// The words of a run, as clap takes them.
+//! The words of a run, as clap takes them.
 ghost use Rattle.std.specs.Prelude.{◌≡◌, IfErr, IfOk, MatchResult, None, Some, is_some, true};
 ghost use Rattle.command_line.specs.Asked.{Asked, asked_of, IsWithin};
 ghost use Rattle.command_line.specs.Meant.{AreNoCommand, is_taken, meant, taken_command};

@@ -1,4 +1,4 @@
-// The words as clap takes them: what its matches say becomes the command.
+//! The words as clap takes them: what its matches say becomes the command.
 ghost use Rattle.std.specs.Prelude.{◌≡◌, ◌≤◌, List, IfErr, IfOk, IfSome, MatchResult, None, Some, false, option_map, true};
 ghost use Rattle.clap.specs.Words.{Row, first_of, found_of, rows_of, subcommand_rows_of};
 ghost use Rattle.command_line.specs.Asked.{ForBatch, ForCheck, ForClimb, ForDemo, ForReduce, ForReplay, ForVerify, IsBatchWithin, IsCheckWithin, IsClimbWithin, IsDemoWithin, IsReduceWithin, asked_of, batch_asked, check_asked, climb_asked, options_asked, reduce_asked, replay_asked, verify_asked, IsWithin, batch_of, check_of, climb_of, depth_from, demo_of, most_from, reduce_of, replay_of, verify_of};

@@ -1,5 +1,5 @@
-// The right netlist of a demo pair: a copy of the left one, in which the chosen latches are complemented, and with them every
-// literal of theirs.
+//! The right netlist of a demo pair: a copy of the left one, in which the chosen latches are complemented, and with them every
+//! literal of theirs.
 ghost use Rattle.std.specs.Prelude.{◌≡◌, ◌≤◌, ◌<◌, ◌+◌, ◌++◌, ◌∷◌, [], length, map, All, Some, OnOk, IfOk};
 ghost use Rattle.aig_graph.specs.Finish.{IsFinished};
 ghost use Rattle.demo_pair.specs.Demo.{is_chosen, negated_if, turned, reset_if, copied_latch, copied_gate, copied};

@@ -1,4 +1,4 @@
-// The left netlist of a demo pair, item by item, and the pair.
+//! The left netlist of a demo pair, item by item, and the pair.
 ghost use Rattle.std.specs.Prelude.{◌≡◌, ◌≤◌, ◌<◌, ◌+◌, ◌*◌, ◌^◌, length, OnOk, IfOk};
 ghost use Rattle.std.specs.Prelude.{ℕ};
 ghost use Rattle.rand_core.specs.Pcg32Seed.{pcg32_seed};
@@ -37,13 +37,6 @@ fn draw_literal(generator: &mut Lcg64Xsh32, variables: u32) -> u32
     2 * variable + draw(generator, 2)
 }
 
-// The literal of a number.
-pub(crate) fn literal_of(number: u32) -> Lit
-    ensures { result ≡ number }
-{
-    Lit::of(number / 2, number % 2 == 1)
-}
-
 // The inputs, which draw nothing.
 fn make_inputs(count: u32, builder: &mut NetBuilder) -> Result<(), BuildFault>
     requires { count ≤ 1000000 }
@@ -68,8 +61,8 @@ fn make_gate(
 {
     let first = draw_literal(generator, var - 1);
     let second = draw_literal(generator, var - 1);
-    let left = literal_of(first.max(second));
-    let right = literal_of(first.min(second));
+    let left = Lit::from_number(first.max(second));
+    let right = Lit::from_number(first.min(second));
     builder.gate(var, left, right)
 }
 
@@ -101,7 +94,7 @@ fn make_latch(
     requires few { variables ≤ 1000000 }
     ensures { OnOk result ((builder.new, generator.new) ≡ latch_made variables var (builder.old, generator.old)) }
 {
-    let next = literal_of(draw_literal(generator, variables));
+    let next = Lit::from_number(draw_literal(generator, variables));
     let reset = Lit::of(0, draw(generator, 2) == 1);
     builder.latch(var, next, reset)
 }
@@ -135,7 +128,7 @@ fn make_output(
     requires room { length builder.old.outputs < 1000000 }
     ensures made { OnOk result ((j : ℕ) → (builder.new, generator.new) ≡ output_made variables j (builder.old, generator.old)) }
 {
-    let lit = literal_of(draw_literal(generator, variables));
+    let lit = Lit::from_number(draw_literal(generator, variables));
     builder.output(lit)
 }
 

@@ -1,3 +1,4 @@
+//! The lines of classes in certificates.
 use crate::circuits::{TOGGLE, pair_of};
 use bit_rows::BitRow;
 use class_partition::Classes;

@@ -1,3 +1,4 @@
+//! Partitions of places, and how rows split them.
 use crate::rows::row_of;
 use circ_model::Lit;
 use class_partition::{Classes, Needed};

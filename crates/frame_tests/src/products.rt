@@ -1,3 +1,4 @@
+//! Products of two netlists, and the frames of their paths.
 ghost use Rattle.std.specs.Prelude.{◌<◌, length};
 ghost use Rattle.circ_model.specs.Meaning.{IsPath};
 ghost use Rattle.product_machine.specs.Walk.{FitsPair};

@@ -1,3 +1,4 @@
+//! Simulation of 64 runs at once.
 ghost use Rattle.std.specs.Prelude.{◌≡◌, ◌<◌, Some, length};
 ghost use Rattle.sim_words.specs.Simulation.{HasFrame, HasNext, next_frame};
 

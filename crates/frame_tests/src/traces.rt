@@ -1,3 +1,4 @@
+//! Traces: what is read, written, and where they differ first.
 use crate::circuits::{
     BOTH_KEPT, BOTH_KEPT_CROSSED, LOW, LOW_AND_KEPT, TOGGLE, pair_of, tied_pair_of,
 };

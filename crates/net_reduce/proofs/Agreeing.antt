@@ -2,7 +2,7 @@
 -- sources from frame to frame, so the outputs agree.
 use Rattle.std.proofs.Common.{◌≡◌, ◌∙◌, ◌<◌, ◌+◌, ℕ, zero, suc, List, length, take, get_or, refl, ap, sym, subst, arith, Bool, false, length-take, get_or-take, get_or-drop}
 use Rattle.std.specs.Prelude.{count_by}
-use Rattle.std.proofs.lemmas.List.{get_or-map, length-map, take_at, drop_at, take_all}
+use Rattle.std.proofs.lemmas.List.{get_or-map, length-map, take_all}
 use Rattle.circ_model.specs.declared.netlist.Latch.{Latch}
 use Rattle.circ_model.specs.declared.netlist.Reset.{Reset}
 use Rattle.circ_model.specs.declared.netlist.Reset.TheVariants.{Zero, One, Free}
@@ -10,7 +10,7 @@ use Rattle.circ_model.specs.Netlist.{Netlist, IsDefined}
 use Rattle.circ_model.specs.Meaning.{Leaves, Pair, Path, IsRun, IsSoundPair, MayStartAt, literal_value, bit, value, next_of, is_free, own_resets, free_latches, resets, state_at, inputs_at, left_leaves_at, right_leaves_at}
 use Rattle.circ_model.proofs.FreeLatches.{free_latch, free_number}
 use Rattle.circ_model.proofs.Rows.{inputs_length}
-use Rattle.circ_model.proofs.Paths.{length_next, left_reset_at, right_reset_at}
+use Rattle.circ_model.proofs.Paths.{left_next, right_next, left_reset_at, right_reset_at}
 use Rattle.product_machine.specs.Cells.{no_latch}
 use Rattle.product_machine.proofs.Sides.{latch_at}
 use Rattle.class_partition.specs.Classes.{Classes, ArePartition, AreOfGreatest}
@@ -22,14 +22,6 @@ use Rattle.net_reduce.proofs.Bare.{bare_places, bare_latches, bare_ties}
 use Rattle.net_reduce.proofs.Replacing.{Replaces, replaces}
 use Rattle.net_reduce.proofs.FreeLatches.{free_stay}
 use Rattle.net_reduce.proofs.Values.{latch_bit, obeys_reduced, same_values}
-
-left_next : (pair : Pair) (path : Path) (t : ℕ) → (left_leaves_at pair path (suc t)).state ≡ next_of pair.left (left_leaves_at pair path t)
-unfolding state_at
-left_next pair path t = take_at (next_of pair.left (left_leaves_at pair path t)) (next_of pair.right (right_leaves_at pair path t)) (length pair.left.latches) (length_next pair.left (left_leaves_at pair path t))
-
-right_next : (pair : Pair) (path : Path) (t : ℕ) → (right_leaves_at pair path (suc t)).state ≡ next_of pair.right (right_leaves_at pair path t)
-unfolding state_at
-right_next pair path t = drop_at (next_of pair.left (left_leaves_at pair path t)) (next_of pair.right (right_leaves_at pair path t)) (length pair.left.latches) (length_next pair.left (left_leaves_at pair path t))
 
 -- What is given: a pair whose right side is a stub, the classes of its greatest correspondence, and what its left side is reduced to.
 pub record IsReduction (pair : Pair) (k : ℕ) (classes : Classes) (r : Netlist) : Type 0 where

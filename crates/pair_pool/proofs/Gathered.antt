@@ -1,5 +1,5 @@
 -- What the seats of all workers list when they are back: the claims of one version, none of them twice.
-use Rattle.std.proofs.Common.{◌≡◌, ◌∙◌, ℕ, zero, suc, ◌+◌, ◌<◌, ◌≤◌, List, [], ◌∷◌, ◌++◌, map, Bool, true, Option, Some, None, IfSome, slice_get, sym, ap, ap₂, subst, arith, inl, inr, All}
+use Rattle.std.proofs.Common.{◌≡◌, ◌∙◌, ℕ, zero, suc, ◌+◌, List, [], ◌∷◌, ◌++◌, map, true, Some, IfSome, slice_get, sym, ap₂, subst, arith, inl, inr, All}
 use Rattle.std.proofs.lemmas.List.{map-append}
 use Rattle.std.proofs.lemmas.List.Elements.{All-append, All-head, All-pop, All-tail, All-weaker}
 use Rattle.circ_model.specs.Meaning.{Pair}

@@ -1,10 +1,9 @@
 -- Slots that are filled and emptied, and answers one after another.
-use Rattle.std.proofs.Common.{◌≡◌, ◌∙◌, ◌≢◌, ℕ, ◌+◌, ◌<◌, ◌≤◌, List, [], ◌∷◌, ◌++◌, length, get_or, slice_index_or, slice_set, length-set, length-append, replicate, Option, Some, None, IfSome, sym, ap, subst, arith, inl, inr, All}
+use Rattle.std.proofs.Common.{◌≡◌, ◌∙◌, ℕ, ◌+◌, ◌<◌, List, [], ◌∷◌, ◌++◌, length, slice_index_or, slice_set, length-set, length-append, Option, Some, IfSome, sym, ap, subst, arith, inl, inr}
 use Rattle.std.proofs.lemmas.Bool.{cases_eq, cases_lt}
 use Rattle.std.proofs.lemmas.List.{get_or-set_same, get_or-set_other, get_or_append_left}
 use Rattle.std.proofs.Math.Seq.{get_or-append_seam}
 use Rattle.std.proofs.lemmas.List.Elements.{All-pop}
-use Rattle.std.specs.Option.{option_to_list}
 use Rattle.circ_model.specs.Meaning.{Pair}
 use Rattle.pair_pool.specs.declared.outcome.Outcome.{Outcome}
 use Rattle.pair_pool.specs.declared.slots.Solved.{Solved}

@@ -1,7 +1,7 @@
 -- Outcomes, by the classes of the greatest correspondence.
-use Rattle.std.proofs.Common.{◌≡◌, ◌≢◌, ◌∙◌, ◌<◌, ℕ, List, [], length, sym, ap, subst}
+use Rattle.std.proofs.Common.{◌≡◌, ◌≢◌, ◌∙◌, ℕ, List, [], length, sym, ap, subst}
 use Rattle.circ_model.specs.Meaning.{Pair, IsSoundPair, outputs_of, places_of}
-use Rattle.circ_model.specs.Verdict.{AgreeBelow, Equivalent, Undecided, Different, IsVerdict}
+use Rattle.circ_model.specs.Verdict.{AgreeBelow, Equivalent, Undecided, IsVerdict}
 use Rattle.class_partition.specs.Classes.{Classes, ArePartition, AreOfGreatest, class_count}
 use Rattle.class_partition.proofs.Verdicts.{is_equivalent, is_undecided}
 use Rattle.pair_pool.specs.Unpaired.{AreLeftOut}

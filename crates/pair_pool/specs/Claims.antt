@@ -1,5 +1,5 @@
 -- What workers claimed, and what they found.
-use Rattle.std.specs.Prelude.{◌≡◌, ℕ, List, map, Bool, false, Some, IfSome, slice_get}
+use Rattle.std.specs.Prelude.{◌≡◌, ℕ, List, map, false, Some, IfSome, slice_get}
 use Rattle.std.specs.List.{All}
 use Rattle.atomic_table.specs.Seated.{TableId}
 use Rattle.circ_model.specs.Meaning.{Pair}

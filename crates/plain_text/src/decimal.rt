@@ -1,4 +1,4 @@
-// A number in decimal, in an array of the longest number's length: it takes no memory.
+//! A number in decimal, in an array of the longest number's length: it takes no memory.
 ghost use Rattle.std.specs.Prelude.{◌≡◌, ◌≤◌, drop, decimal};
 
 /// Puts the digits of a number at the end of the array, and answers where they begin.

@@ -1,4 +1,4 @@
-// Decimal numbers inside a longer text. A value past 4294967295 counts as that.
+//! Decimal numbers inside a longer text. A value past 4294967295 counts as that.
 ghost use Rattle.std.specs.Prelude.{◌≡◌};
 ghost use Rattle.plain_text.specs.Numbers.{number_at};
 

@@ -1,4 +1,4 @@
-// The pieces of a text between separators: its lines, or the words of a line.
+//! The pieces of a text between separators: its lines, or the words of a line.
 ghost use Rattle.std.specs.Prelude.{◌≡◌, ◌<◌, ◌≤◌, ◌+◌, [], ◌∷◌, take, drop, length, MatchOption, slice_index};
 ghost use Rattle.plain_text.specs.Pieces.{pieces, last_of, is_byte, HasNone};
 

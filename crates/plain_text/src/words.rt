@@ -1,4 +1,4 @@
-// Words that are numbers without leading zeros.
+//! Words that are numbers without leading zeros.
 ghost use Rattle.std.specs.Prelude.{◌≡◌, ◌<◌, ◌≤◌, IfSome};
 ghost use Rattle.plain_text.specs.Words.{number_word};
 

@@ -6,7 +6,7 @@ use Rattle.std.proofs.lemmas.List.{length-map, get_or-map, get_or_default, get_o
 use Rattle.std.proofs.lemmas.List.Elements.{All-append}
 use Rattle.std.proofs.lemmas.List.FromFn.{length-map-range_with_len, get_or-map-range_with_len}
 use Rattle.circ_model.specs.declared.netlist.Latch.{Latch}
-use Rattle.circ_model.specs.Meaning.{bit, literal_value, value, value_in, Pair, IsSoundPair, Path, places_of, latches_of, outputs_of, left_literal, right_literal, left_leaves, right_leaves, next_of, next_state, row}
+use Rattle.circ_model.specs.Meaning.{bit, literal_value, value, value_in, Pair, IsSoundPair, Path, places_of, latches_of, outputs_of, left_literal, right_literal, left_leaves, right_leaves, next_state, row}
 use Rattle.circ_model.proofs.Rows.{length_places, left_literal_is, right_literal_is, left_value, right_value}
 use Rattle.product_machine.specs.Eval.{IsFrame}
 use Rattle.product_machine.specs.States.{nexts, output_pair, output_pairs}

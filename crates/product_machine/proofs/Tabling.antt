@@ -11,8 +11,6 @@ use Rattle.product_machine.specs.declared.cell.Cell.TheVariants.{Held, Product}
 use Rattle.circ_model.specs.Netlist.{Netlist, IsSound, AllDefined, IsDefined, variables, no_gate}
 use Rattle.circ_model.specs.Meaning.{Pair, is_odd, literal as literal_of, IsSoundPair, literal_by, left_place, right_place, left_literal, right_literal, outputs_of, own_resets}
 use Rattle.product_machine.specs.Cells.{own_cells, partners, no_latch, start_at, latch_cell, gate_cell}
-use Rattle.circ_model.proofs.Order.{gate_variable}
-use Rattle.circ_model.proofs.Rows.{length_leaves}
 use Rattle.circ_model.proofs.Rows.{left_at, right_at}
 use Rattle.product_machine.specs.Tables.{IsTable, AreTables, outputs_by, moved, says}
 use Rattle.product_machine.specs.States.{output_pair, output_pairs}

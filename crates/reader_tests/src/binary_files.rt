@@ -1,3 +1,4 @@
+//! Bodies of binary files.
 use aig_graph::{BuildFault, Netlist};
 use aiger_binary::read_binary;
 use aiger_codec::{NetError, read_header, write_text_net};

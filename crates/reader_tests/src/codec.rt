@@ -1,3 +1,4 @@
+//! Headers, and the numbers of both forms.
 use aiger_codec::*;
 use plain_text::read_number;
 use std::alloc::{AllocError, Global};

@@ -1,3 +1,4 @@
+//! Netlists that are built call by call.
 ghost use Rattle.std.specs.Prelude.{◌≤◌};
 
 use aig_graph::{BuildFault, NetBuilder, Netlist};
@@ -12,15 +13,11 @@ enum Call {
     Gate(u32, u32, u32),
 }
 
-fn literal(number: u32) -> Lit {
-    Lit::of(number / 2, number % 2 == 1)
-}
-
 fn give(builder: &mut NetBuilder, call: &Call) -> Result<(), BuildFault> {
     match call {
         Call::Input(var) => builder.input(*var),
-        Call::Latch(var, next, reset) => builder.latch(*var, literal(*next), literal(*reset)),
-        Call::Gate(var, left, right) => builder.gate(*var, literal(*left), literal(*right)),
+        Call::Latch(var, next, reset) => builder.latch(*var, Lit::from_number(*next), Lit::from_number(*reset)),
+        Call::Gate(var, left, right) => builder.gate(*var, Lit::from_number(*left), Lit::from_number(*right)),
     }
 }
 
@@ -28,7 +25,7 @@ fn build(alloc: Global, max_var: u32, output: u32, calls: &[Call]) -> Result<Net
     requires { max_var ≤ 1000000 }
 {
     let mut builder = NetBuilder::new(alloc, max_var)?;
-    builder.output(literal(output))?;
+    builder.output(Lit::from_number(output))?;
     for call in calls {
         give(&mut builder, call)?;
     }

@@ -1,3 +1,4 @@
+//! Bodies of text files.
 use aig_graph::BuildFault;
 use aiger_codec::{NetError, read_header};
 use aiger_text::read_text;

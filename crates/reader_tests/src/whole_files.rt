@@ -1,3 +1,4 @@
+//! Whole files, text and binary.
 ghost use Rattle.std.specs.Prelude.{◌<◌, ◌^◌};
 
 use aiger_codec::{NetError, write_binary_net, write_text_net};

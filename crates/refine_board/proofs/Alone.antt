@@ -5,7 +5,7 @@ use Rattle.std.proofs.lemmas.List.{append-nil, append_assoc, length-set, get_or_
 use Rattle.class_partition.specs.declared.classes.Needed.{Needed}
 use Rattle.class_partition.specs.Classes.{Classes, least_of, needed, relative}
 use Rattle.class_partition.proofs.Partition.{needed_from_relative}
-use Rattle.verdict_stamp.specs.Versions.{Separates}
+use Rattle.circ_model.specs.Correspondence.{Separates}
 use Rattle.refine_board.specs.declared.marks.Mark.{Mark}
 use Rattle.refine_board.specs.declared.marks.Mark.TheVariants.{Open, Out, Proved}
 use Rattle.refine_board.specs.declared.marks.LastOffer.{LastOffer}

@@ -12,7 +12,7 @@ use Rattle.refine_board.specs.declared.answers.Cut.{Cut}
 use Rattle.refine_board.specs.declared.answers.Cut.TheVariants as cut_as
 use Rattle.refine_board.specs.Answers.{cut_step}
 use Rattle.refine_board.specs.Running.{Running, Appends, AreCountedBelow}
-use Rattle.verdict_stamp.specs.Versions.{Separates}
+use Rattle.circ_model.specs.Correspondence.{Separates}
 
 pub counted_more : (places : ℕ) (board : State) (p : ℕ) → AreCountedBelow places board p → (IsNeeded places board.classes p → IsCountedAt board p) → AreCountedBelow places board (p + 1)
 counted_more places board p below here m lt need = ⊎_elim

@@ -5,7 +5,7 @@ ghost use Rattle.class_partition.specs.Classes.{AreOfGreatest, IsNeeded, class_c
 ghost use Rattle.refine_board.specs.States.{AllCounted, IsCountedAt, IsNeededPair, offer_of};
 ghost use Rattle.refine_board.specs.Running.{AreCountedBelow, Counts, IsAbout, IsOf, IsUnder};
 ghost use Rattle.refine_board.specs.Closings.{Closes};
-ghost use Rattle.verdict_stamp.specs.Versions.{Separates};
+ghost use Rattle.circ_model.specs.Correspondence.{Separates};
 
 use crate::board::Board;
 use crate::run::Run;

@@ -1,10 +1,9 @@
 -- Trying all paths of two rows: what the rows are, what a split keeps, and what nothing split means.
-use Rattle.std.proofs.Common.{◌≡◌, ◌∙◌, ◌==◌, ◌<◌, ◌+◌, ◌/◌, ◌%◌, ◌^◌, ℕ, zero, suc, List, [], ◌∷◌, length, map, take, drop, Bool, false, replicate, zero-add, refl, ap, ap₂, sym, subst, arith, slice_index_or, length-take, length-drop, length-append}
+use Rattle.std.proofs.Common.{◌≡◌, ◌∙◌, ◌==◌, ◌<◌, ◌+◌, ◌/◌, ◌%◌, ◌^◌, ℕ, zero, suc, List, [], ◌∷◌, length, map, take, drop, Bool, false, replicate, zero-add, refl, ap, ap₂, sym, subst, arith, slice_index_or, length-take, length-drop}
 use Rattle.std.proofs.Math.Nat.{div-div-eq-div-mul, pow-succ'}
 use Rattle.std.specs.Int.{bit_at}
 use Rattle.std.proofs.lemmas.List.{length-map, get_or-map, get_or-take, get_or-drop, ext_get_or}
 use Rattle.std.proofs.lemmas.List.Elements.{All-cons, All-nil}
-use Rattle.circ_model.specs.declared.netlist.Latch.{Latch}
 use Rattle.circ_model.specs.declared.netlist.Reset.TheVariants.{Free}
 use Rattle.circ_model.specs.Meaning.{Pair, Path, IsPath, IsRun, IsInputRow, bit, latches_of, places_of, resets, inputs_at, state_at, row_at, row, next_state}
 use Rattle.circ_model.specs.Runs.{first_bit, phases, path_of_bits, bits_of}

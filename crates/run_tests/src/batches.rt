@@ -1,3 +1,4 @@
+//! Runs of `batch`.
 use crate::runs::{DELAY, LOW, Row, TOGGLE, answers_so, case};
 use std::test::Fail;
 

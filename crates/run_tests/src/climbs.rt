@@ -1,3 +1,4 @@
+//! Runs of `climb`.
 use crate::runs::{
     DELAY, LOW, MASKED, RING, Row, Sinks, TOGGLE, answers_so, case, run_words, shelf_of,
 };

@@ -1,10 +1,6 @@
+//! Demo pairs.
 use circ_model::{Lit, Reset};
 use demo_pair::make_demo;
-
-// The literals' numbers were made by a program outside this repository, of the same generator.
-fn lit(number: u32) -> Lit {
-    Lit::of(number / 2, number % 2 == 1)
-}
 
 #[test]
 fn a_pair_of_no_size_is_empty(rt: HostRuntime) {
@@ -19,6 +15,7 @@ fn a_pair_of_no_size_is_empty(rt: HostRuntime) {
     }
 }
 
+// The literals' numbers were made by a program outside this repository, of the same generator.
 #[test]
 fn a_chosen_latch_is_complemented_in_the_copy(rt: HostRuntime) {
     let pair = make_demo(rt.alloc(), 1);
@@ -37,26 +34,26 @@ fn a_chosen_latch_is_complemented_in_the_copy(rt: HostRuntime) {
         for ((mine, copied), gate) in left.gates().iter().zip(right.gates()).zip(gates) {
             assert_eq!(rt;
                 (mine.var, mine.left, mine.right),
-                (gate.0, lit(gate.1), lit(gate.3))
+                (gate.0, Lit::from_number(gate.1), Lit::from_number(gate.3))
             );
             assert_eq!(rt;
                 (copied.var, copied.left, copied.right),
-                (gate.0, lit(gate.2), lit(gate.3))
+                (gate.0, Lit::from_number(gate.2), Lit::from_number(gate.3))
             );
         }
         for latch in left.latches() {
             assert_eq!(rt;
                 (latch.var, latch.next, latch.reset),
-                (2, lit(17), Reset::Zero)
+                (2, Lit::from_number(17), Reset::Zero)
             );
         }
         for latch in right.latches() {
             assert_eq!(rt;
                 (latch.var, latch.next, latch.reset),
-                (2, lit(16), Reset::One)
+                (2, Lit::from_number(16), Reset::One)
             );
         }
-        assert_eq!(rt; left.outputs(), [lit(5)].as_slice());
-        assert_eq!(rt; right.outputs(), [lit(4)].as_slice());
+        assert_eq!(rt; left.outputs(), [Lit::from_number(5)].as_slice());
+        assert_eq!(rt; right.outputs(), [Lit::from_number(4)].as_slice());
     }
 }

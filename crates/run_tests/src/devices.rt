@@ -1,3 +1,4 @@
+//! Shelves and sinks that fail where they are told.
 ghost use Rattle.std.specs.Prelude.{IsOk};
 
 use sec_base::*;

@@ -1,6 +1,6 @@
-// The classes of the greatest correspondence for k = 1, found plainly, to compare with: one class by phases is split by the first row of
-// every run and by the second row of every path in whose first row the classes hold, until nothing splits. Every path of
-// two rows is tried, so this is for pairs with few latches and inputs.
+//! The classes of the greatest correspondence for k = 1, found plainly, to compare with: one class by phases is split by the first row of
+//! every run and by the second row of every path in whose first row the classes hold, until nothing splits. Every path of
+//! two rows is tried, so this is for pairs with few latches and inputs.
 ghost use Rattle.std.specs.Prelude.{◌≡◌, ◌==◌, ◌<◌, ◌≤◌, ◌+◌, ◌-◌, ◌*◌, ◌/◌, ◌^◌, ◌↔◌, ℕ, List, Bool, IsTrue, IfOk, IfSome, length, map};
 ghost use Rattle.std.specs.Int.{bit_at};
 ghost use Rattle.circ_model.specs.Meaning.{Pair, MayStartAt, bit, latches_of, places_of, resets, row_at};

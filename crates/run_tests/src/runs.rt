@@ -1,3 +1,4 @@
+//! Whole runs over shelves and sinks in memory.
 ghost use Rattle.std.specs.Prelude.{◌≢◌};
 
 use crate::plain::{few_free_bits, plain_classes};

@@ -1,3 +1,4 @@
+//! The words of a run, and the command that they give.
 use crate::runs::words_of;
 use command_line::*;
 use std::alloc::{AllocError, Global};

@@ -1,5 +1,5 @@
 -- What is written is read again.
-use Rattle.std.proofs.Common.{◌≡◌, ◌≢◌, ℕ, suc, ◌+◌, ◌-◌, ◌*◌, ◌%◌, ◌^◌, ◌<◌, ◌≤◌, ◌==◌, ◌&&◌, Bool, true, false, leb, ℤ, pos, negsuc, List, [], ◌∷◌, ◌++◌, length, get_or, Some, Ok, refl, sym, ap, ◌∙◌, arith, append_assoc, append-nil, subst, decimal, length-append}
+use Rattle.std.proofs.Common.{◌≡◌, ◌≢◌, ℕ, suc, ◌+◌, ◌-◌, ◌^◌, ◌<◌, ◌==◌, ◌&&◌, Bool, true, false, ℤ, pos, negsuc, List, [], ◌∷◌, ◌++◌, length, get_or, Some, Ok, refl, sym, ap, ◌∙◌, arith, append_assoc, append-nil, subst, decimal}
 use Rattle.std.specs.Fmt.{signed_decimal}
 use Rattle.std.specs.List.{AllByRecursion, All}
 use Rattle.std.proofs.lemmas.Bool.{ne_eqb}
@@ -7,7 +7,6 @@ use Rattle.cnf_store.specs.Clauses.{IsLiteral, AreLiterals}
 use Rattle.sat_log.specs.Derivations.{Line}
 use Rattle.sat_log.specs.Lines.{IsLine, AreLines}
 use Rattle.plain_text.specs.Pieces.{pieces, last_of, is_byte}
-use Rattle.plain_text.specs.Numbers.{is_digit}
 use Rattle.plain_text.proofs.Again.{Spells, Word, decimal_spells, is_of_digit, last_again, none_is, not_zero, number_read, piece_again, word_of}
 use Rattle.sat_log.specs.Words.{literal_word}
 use Rattle.sat_log.specs.Texts.{HasText, hints_from, step_from, step_of, literals_text, hints_text, step_text, log_text}

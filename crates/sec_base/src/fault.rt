@@ -1,4 +1,4 @@
-// What can go wrong. `Failed` is a fault of the device, which counts it; `Memory` is want of memory.
+//! What can go wrong. `Failed` is a fault of the device, which counts it; `Memory` is want of memory.
 ghost use Rattle.std.specs.Prelude.{◌≡◌};
 ghost use Rattle.sec_base.specs.declared.fault.LoadFault.TheVariants as load;
 ghost use Rattle.sec_base.specs.declared.fault.StoreFault.TheVariants as store;

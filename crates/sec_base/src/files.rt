@@ -1,4 +1,4 @@
-// The files that the shelves in memory hold: names and bytes, in the order in which the names came.
+//! The files that the shelves in memory hold: names and bytes, in the order in which the names came.
 ghost use Rattle.std.specs.Prelude.{◌≡◌, ◌≤◌, ◌<◌, ◌+◌, ◌-◌, ◌^◌, [], length, take, OnOk, OnErr, IsErrOf, option_map};
 ghost use Rattle.sec_base.specs.Files.{file_in, with_file};
 

@@ -1,4 +1,4 @@
-// A shelf in memory, for tests: it has the files that were put, and the calls that it is told to fail.
+//! A shelf in memory, for tests: it has the files that were put, and the calls that it is told to fail.
 ghost use Rattle.std.specs.Prelude.{◌≡◌, ◌≢◌, ◌≤◌, ◌<◌, ◌+◌, ◌-◌, ◌^◌, ◌⊎◌, ◌↔◌, ℕ, List, [], ◌∷◌, ◌++◌, length, take, vec_len, Some, None, option_map, true, IsTrue, IsOk, OnOk, OnErr, IsErrOf};
 ghost use Rattle.sec_base.specs.Calls.{one_more, is_listed};
 ghost use Rattle.sec_base.specs.Faults.{Rose, appended};

@@ -1,4 +1,4 @@
-// A sink in memory, for tests: it has some room, and the calls that it is told to fail.
+//! A sink in memory, for tests: it has some room, and the calls that it is told to fail.
 ghost use Rattle.std.specs.Prelude.{◌≡◌, ◌≤◌, ◌<◌, [], length, take, min, Some, is_err, IfOk, OnErr};
 ghost use Rattle.sec_base.specs.Faults.{Rose, appended};
 ghost use Rattle.sec_base.specs.MemSink.{refuses, room_left, after_write};

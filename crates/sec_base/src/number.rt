@@ -1,4 +1,4 @@
-// Numbers into a sink, in decimal, from an array of the longest number's length.
+//! Numbers into a sink, in decimal, from an array of the longest number's length.
 ghost use Rattle.std.specs.Prelude.{◌≡◌, ◌≤◌, decimal, OnOk, OnErr};
 ghost use Rattle.sec_base.specs.Faults.{Rose, appended, IsCutShort};
 

@@ -1,4 +1,4 @@
-// The edge to the system: real files and streams. What they hold is told to nobody; their errors are counted.
+//! The edge to the system: real files and streams. What they hold is told to nobody; their errors are counted.
 ghost use Rattle.std.specs.Prelude.{◌≡◌, ◌≤◌, ◌<◌, ◌+◌, ◌-◌, ◌^◌, [], None, false, vec_len, OnOk, IsErrOf};
 
 use crate::{Failed, LoadFault, Shelf, Sink, StoreFault};

@@ -1,4 +1,4 @@
-// A shelf of named files. It says what stands under each name, or that it doesn't tell, and counts its faults.
+//! A shelf of named files. It says what stands under each name, or that it doesn't tell, and counts its faults.
 ghost use Rattle.std.specs.Prelude.{◌≡◌, ◌≢◌, ◌≤◌, ◌<◌, ◌-◌, ◌^◌, ◌+◌, ℕ, Bool, List, Option, Some, [], vec_len, IsTrue, OnOk, IsErrOf};
 ghost use Rattle.sec_base.specs.Faults.{Rose, appended};
 ghost use Rattle.sec_base.specs.Files.{IsTooLong, failed_in};

@@ -1,4 +1,4 @@
-// A sink of bytes. It says what it has taken, or that it doesn't tell, and counts its faults.
+//! A sink of bytes. It says what it has taken, or that it doesn't tell, and counts its faults.
 ghost use Rattle.std.specs.Prelude.{◌≡◌, ◌≤◌, ◌<◌, ℕ, List, Option, length, take, IfOk, OnErr};
 ghost use Rattle.sec_base.specs.Faults.{Rose, appended};
 

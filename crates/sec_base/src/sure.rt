@@ -1,4 +1,4 @@
-// A shelf and a sink that never fail, so that a caller over them is left with no excuse.
+//! A shelf and a sink that never fail, so that a caller over them is left with no excuse.
 ghost use Rattle.std.specs.Prelude.{◌≡◌, ◌≢◌, ◌≤◌, ◌<◌, ◌+◌, ◌-◌, ◌^◌, ℕ, List, [], length, take, vec_len, Some, None, Ok, true, IfOk, OnOk, OnErr, IsErrOf, is_err, false};
 ghost use Rattle.sec_base.specs.Faults.{Rose};
 ghost use Rattle.sec_base.specs.Files.{IsTooLong, file_or_empty, with_file};

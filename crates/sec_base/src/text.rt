@@ -1,4 +1,4 @@
-// Whole texts into a sink. They take no memory, so that a fault can be told where there is none.
+//! Whole texts into a sink. They take no memory, so that a fault can be told where there is none.
 ghost use Rattle.std.specs.Prelude.{◌≡◌, ◌≤◌, OnOk, OnErr};
 ghost use Rattle.sec_base.specs.Faults.{Rose, appended, IsCutShort};
 

@@ -1,4 +1,4 @@
-// The answer of `check`: the verdict of a pair, and its text.
+//! The answer of `check`: the verdict of a pair, and its text.
 ghost use Rattle.std.specs.Prelude.{◌≡◌, ◌≢◌, ◌≤◌, ◌<◌, ◌++◌, ℕ, List, [], length, is_some, IfOk, IfSome, None, OnOk};
 ghost use Rattle.circ_model.specs.Meaning.{IsSoundPair, places_of, outputs_of};
 ghost use Rattle.circ_model.specs.Verdict.{AgreeBelow};

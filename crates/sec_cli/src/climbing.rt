@@ -1,4 +1,4 @@
-// The answer of `climb`: checks with induction over 1, 2, .. frames, up to the first that decides.
+//! The answer of `climb`: checks with induction over 1, 2, .. frames, up to the first that decides.
 ghost use Rattle.std.specs.Prelude.{◌≡◌, ◌<◌, ◌≤◌, ◌+◌, IfOk, IfSome, OnOk, MatchBool, ◌==◌, is_some};
 ghost use Rattle.circ_model.specs.Verdict.{AgreeBelow};
 ghost use Rattle.class_partition.specs.Classes.{AreOfGreatest};

@@ -1,4 +1,4 @@
-// One run: its words, its files, and what is written of it.
+//! One run: its words, its files, and what is written of it.
 ghost use Rattle.std.specs.Prelude.{◌≡◌, ◌≢◌, ◌≤◌, ◌<◌, ◌⊎◌, ℕ, List, [], ◌∷◌, IsTrue, IsSomeAnd, MatchBool, None, is_some, IfOk};
 ghost use Rattle.sec_base.specs.Faults.{Rose, appended};
 ghost use Rattle.command_line.specs.Asked.{Asked, ForClimb, asked_of, climb_asked, options_asked, reduce_asked, IsCheckWithin, IsClimbWithin, IsDemoWithin, IsReduceWithin, IsWithin};

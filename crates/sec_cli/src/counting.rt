@@ -1,4 +1,4 @@
-// The numbers of the entries of a journal, kind by kind, and their line.
+//! The numbers of the entries of a journal, kind by kind, and their line.
 ghost use Rattle.std.specs.Prelude.{◌≡◌, ◌-◌, ◌^◌, string_bytes, IfOk};
 ghost use Rattle.sec_cli.specs.Stats.{AreBelow, IsOneMore, stats_of};
 ghost use Rattle.sec_cli.specs.Texts.{stats_head, stats_line};

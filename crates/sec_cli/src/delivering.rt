@@ -1,4 +1,4 @@
-// What becomes of an answer: its file is stored, where the command has a name for that, and then its text is printed.
+//! What becomes of an answer: its file is stored, where the command has a name for that, and then its text is printed.
 ghost use Rattle.std.specs.Prelude.{◌≡◌, ◌≤◌, ◌⊎◌, Option, Some, option_map};
 ghost use Rattle.sec_base.specs.Faults.{Rose, appended, IsCutShort};
 ghost use Rattle.command_line.specs.Asked.{asked_of};

@@ -1,4 +1,4 @@
-// The answer of `demo`: the line of a demo pair, and the verdict of its two netlists.
+//! The answer of `demo`: the line of a demo pair, and the verdict of its two netlists.
 ghost use Rattle.std.specs.Prelude.{◌≤◌, ◌≡◌, ◌++◌, false, IfOk, is_some};
 ghost use Rattle.circ_model.specs.Meaning.{IsSoundPair};
 ghost use Rattle.demo_pair.specs.Demo.{IsDemo};

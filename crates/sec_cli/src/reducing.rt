@@ -1,4 +1,4 @@
-// The answer of `reduce`: a netlist without its equal signals, and the line that counts what stays.
+//! The answer of `reduce`: a netlist without its equal signals, and the line that counts what stays.
 ghost use Rattle.std.specs.Prelude.{◌≡◌, ◌≤◌, IsTrue, is_some, length, IfOk};
 ghost use Rattle.circ_model.specs.Meaning.{places_of};
 ghost use Rattle.class_partition.specs.Classes.{ArePartition, AreOfGreatest, class_count};

@@ -1,4 +1,4 @@
-// The answer of `replay`: what a stored trace shows on a pair.
+//! The answer of `replay`: what a stored trace shows on a pair.
 ghost use Rattle.std.specs.Prelude.{◌≡◌, ◌≤◌, ◌<◌, ◌^◌, ℕ, List, [], ◌∷◌, None, IsTrue, IfOk, length};
 ghost use Rattle.sec_base.specs.Faults.{Rose, appended};
 ghost use Rattle.circ_model.specs.Meaning.{IsRun};

@@ -1,4 +1,4 @@
-// What is told of a run that answers nothing, and its status.
+//! What is told of a run that answers nothing, and its status.
 ghost use Rattle.std.specs.Prelude.{◌≡◌, ◌≤◌};
 ghost use Rattle.run_texts.specs.Told.{IsTold};
 ghost use Rattle.sec_cli.specs.Texts.{trace_fault_text, name_of_cert_kind, cert_fault_text};

@@ -1,4 +1,4 @@
-// The file that a command reads beside a pair: a trace or a certificate.
+//! The file that a command reads beside a pair: a trace or a certificate.
 ghost use Rattle.std.specs.Prelude.{◌≡◌, ◌≤◌, Some, IsTrue, length, IfOk, IfErr, IsErrOf};
 ghost use Rattle.sec_base.specs.Faults.{Rose, appended};
 ghost use Rattle.sec_cli.specs.Endings.{IsUnloaded, failed_third, longest_third};

@@ -1,4 +1,4 @@
-// The answer of `verify`: whether a stored certificate supports a pair.
+//! The answer of `verify`: whether a stored certificate supports a pair.
 ghost use Rattle.std.specs.Prelude.{◌≡◌, ◌≤◌, ◌<◌, ◌^◌, ℕ, List, [], ◌∷◌, ◌++◌, None, IsTrue, IfOk, length};
 ghost use Rattle.sec_base.specs.Faults.{Rose, appended};
 ghost use Rattle.sec_cli.specs.Texts.{verified_line};

@@ -1,3 +1,4 @@
+//! The checker of logs.
 use dimacs_text::read_dimacs;
 use log_check::{check, first_bad};
 use sat_log::read_log;

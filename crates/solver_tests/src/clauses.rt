@@ -1,3 +1,4 @@
+//! Clauses of a formula.
 use cnf_store::Cnf;
 use std::alloc::{AllocError, Global};
 use std::test::Fail;

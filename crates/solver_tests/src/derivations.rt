@@ -1,3 +1,4 @@
+//! Logs as texts.
 use sat_log::{Log, LogError, LogFault, Stop, read_log, read_part, write_log};
 use std::alloc::Global;
 use std::test::Fail;

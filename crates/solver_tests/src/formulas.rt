@@ -1,3 +1,4 @@
+//! Formulas as texts, and their answers.
 ghost use Rattle.std.specs.Prelude.{◌≡◌, true};
 ghost use Rattle.cnf_store.specs.Clauses.{AreLiterals};
 

@@ -1,3 +1,4 @@
+//! Rows of bits.
 use bit_rows::{BitRow, Rows};
 use std::alloc::{AllocError, Global};
 use std::test::Fail;

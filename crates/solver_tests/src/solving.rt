@@ -1,3 +1,4 @@
+//! The answers of the solver.
 ghost use Rattle.std.specs.Prelude.{◌≡◌};
 
 use crate::formulas::is_answered;

@@ -1,10 +1,10 @@
 -- Facts about rows that are held.
 use Rattle.std.proofs.Common.{◌≡◌, ◌∙◌, ◌<◌, ℕ, Bool, List, length, slice_index_or, Option, Some, IfSome, subst, sym, ap}
 use Rattle.circ_model.specs.Meaning.{Pair, places_of}
-use Rattle.circ_model.specs.Correspondence.{MaySplit}
+use Rattle.circ_model.specs.Correspondence.{MaySplit, Separates}
 use Rattle.class_partition.specs.Classes.{Classes, KeepsGreatest, needed}
 use Rattle.sim_words.specs.Lanes.{lane}
-use Rattle.step_lanes.specs.Rows.{IsFirstApart, MaskedRows, Separates}
+use Rattle.step_lanes.specs.Rows.{IsFirstApart, MaskedRows}
 use Rattle.split_rows.specs.Rows.{AreOf, IsRowApart}
 
 -- by equals

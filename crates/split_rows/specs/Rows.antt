@@ -1,9 +1,9 @@
 -- Rows that may split, and those that separate a needed pair.
 use Rattle.std.specs.Prelude.{◌≡◌, ◌<◌, ℕ, List, length, All, Bool}
 use Rattle.circ_model.specs.Meaning.{Pair, places_of}
-use Rattle.circ_model.specs.Correspondence.{MaySplit}
+use Rattle.circ_model.specs.Correspondence.{MaySplit, Separates}
 use Rattle.class_partition.specs.Classes.{Classes, needed}
-use Rattle.step_lanes.specs.Rows.{MaskedRows, Separates}
+use Rattle.step_lanes.specs.Rows.{MaskedRows}
 
 -- blocks of a pair, for induction over k frames
 abbrev pub AreOf : Pair → ℕ → List MaskedRows → Type 0

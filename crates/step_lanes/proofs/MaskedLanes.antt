@@ -10,7 +10,7 @@ use Rattle.class_partition.specs.Classes.{Classes, least_of, needed, phase_of, r
 use Rattle.class_partition.proofs.Signs.{apart_from_together, signed-self}
 use Rattle.sim_words.specs.Lanes.{lane, lane_bit}
 use Rattle.sim_words.proofs.Lanes.{lane_at, lane_and, lane_not, lane_xor}
-use Rattle.step_lanes.specs.Rows.{Separates}
+use Rattle.circ_model.specs.Correspondence.{Separates}
 
 -- exclusive or tells equal bits from others
 same_bits : (x y : Bool) → signed y x ≡ false → x ≡ y

@@ -1,13 +1,9 @@
 -- 64 rows that may split, and which of them separate a needed pair.
-use Rattle.std.specs.Prelude.{◌≡◌, ℕ, ◌<◌, List, length, Bool, false, not, IsTrue, Option, Some, None}
-use Rattle.circ_model.specs.Meaning.{Pair, places_of, value_in}
-use Rattle.circ_model.specs.Correspondence.{HoldsIn, MaySplit}
+use Rattle.std.specs.Prelude.{◌≡◌, ℕ, ◌<◌, List, length, false, IsTrue, Option, Some, None}
+use Rattle.circ_model.specs.Meaning.{Pair, places_of}
+use Rattle.circ_model.specs.Correspondence.{HoldsIn, Separates, MaySplit}
 use Rattle.class_partition.specs.Classes.{Classes, needed}
 use Rattle.sim_words.specs.Lanes.{lane, lane_bit}
-
--- two literals differ in a row
-abbrev pub Separates : List Bool → ℕ × ℕ → Type 0
-Separates bits p = value_in bits p.0 ≡ not (value_in bits p.1)
 
 -- a word for each place of a pair, and a mask of lanes
 pub record MaskedRows : Type 0 where

@@ -1,7 +1,7 @@
 -- What is written is read again.
 use Rattle.std.proofs.Common.{◌≡◌, ◌≢◌, ℕ, suc, ◌+◌, ◌<◌, Bool, true, false, ◌&&◌, List, [], ◌∷◌, ◌++◌, length, Some, None, Ok, refl, sym, ap, ◌∙◌, arith, append_assoc, append-nil, decimal}
 use Rattle.std.specs.List.{All, AllByRecursion}
-use Rattle.std.proofs.lemmas.Bool.{eq-eqb, ne_eqb, lt-ltb}
+use Rattle.std.proofs.lemmas.Bool.{eq-eqb, lt-ltb}
 use Rattle.plain_text.specs.Numbers.{SpellsNumber, number_at}
 use Rattle.plain_text.proofs.Again.{digits_whole, none_is, number_made, number_spelled, piece_again}
 use Rattle.plain_text.specs.Pieces.{is_byte}

@@ -1,4 +1,4 @@
-// Lines of bits: what is wrong with them, and the rows that they spell.
+//! Lines of bits: what is wrong with them, and the rows that they spell.
 ghost use Rattle.std.specs.Prelude.{◌≡◌, ◌<◌, ◌↔◌, IsTrue, [], length, IfNone, IfOk};
 ghost use Rattle.circ_model.specs.Meaning.{latches_of, resets};
 ghost use Rattle.product_machine.specs.States.{StartsLike};

@@ -1,4 +1,4 @@
-// What can be wrong with a trace, and where.
+//! What can be wrong with a trace, and where.
 ghost use Rattle.std.specs.Prelude.{◌≡◌};
 ghost use Rattle.trace_witness.specs.Names.{name_of};
 

@@ -2,7 +2,7 @@
 use Rattle.std.proofs.Common.{◌≡◌, ◌∙◌, ◌<◌, ◌⊎◌, ◌+◌, ℕ, Bool, true, false, not, List, length, refl, ap, sym, subst, arith, inl, inr, ⊎_elim, true≢false, Option, Some, None, IfSome, IfNone}
 use Rattle.std.proofs.lemmas.List.Elements.{All-nil}
 use Rattle.circ_model.specs.Meaning.{Pair, Path, IsPath, IsRun, places_of, row_at, value_in}
-use Rattle.circ_model.specs.Correspondence.{HoldsIn, MaySplit, MaySplit.OfRun}
+use Rattle.circ_model.specs.Correspondence.{HoldsIn, Separates, MaySplit, MaySplit.OfRun}
 use Rattle.circ_model.proofs.Rows.{length_row}
 use Rattle.class_partition.specs.Classes.{Classes, HoldIn, IsNeeded, needed}
 use Rattle.sat_log.specs.Derivations.{Line}
@@ -21,7 +21,7 @@ use Rattle.split_rows.specs.Rows.{IsRowApart}
 use Rattle.frame_graph.specs.Inductions.{BasePasses, StepPasses}
 use Rattle.frame_graph.proofs.Staying.{both_halves}
 use Rattle.verdict_stamp.specs.Proofs.{IsApart, IsProof, IsSettled, IsSplitOf}
-use Rattle.verdict_stamp.specs.Versions.{Standing, IsVersion, Split, IsPassed, Separates, base_of, step_of, base_question, step_question, extent_of, induction_of}
+use Rattle.verdict_stamp.specs.Versions.{Standing, IsVersion, Split, IsPassed, base_of, step_of, base_question, step_question, extent_of, induction_of}
 
 -- two bits are equal or complements, and not both
 same_or_not : (x y : Bool) → (x ≡ y) ⊎ (x ≡ not y)

@@ -1,13 +1,13 @@
 -- What a proof of a version's needed pair answers.
 use Rattle.std.specs.Prelude.{◌≡◌, ℕ, List, length, Bool}
 use Rattle.circ_model.specs.Meaning.{places_of}
-use Rattle.circ_model.specs.Correspondence.{MaySplit}
+use Rattle.circ_model.specs.Correspondence.{MaySplit, Separates}
 use Rattle.class_partition.specs.Classes.{Passes, needed}
 use Rattle.verdict_stamp.specs.declared.prover.Proof.{Proof}
 use Rattle.verdict_stamp.specs.declared.used.Used.TheVariants.{Version}
 use Rattle.verdict_stamp.specs.declared.prover.Proof.TheVariants.{Holds, Splits}
 use Rattle.verdict_stamp.specs.Known.{Refined, ArePaired, known_of}
-use Rattle.verdict_stamp.specs.Versions.{Split, Standing, Separates}
+use Rattle.verdict_stamp.specs.Versions.{Split, Standing}
 
 -- it holds exactly where the pair passes, by the version's needed pairs; else a vector of the same product and k separates it
 abbrev pub IsProof : Standing → ℕ → Proof → Type 0

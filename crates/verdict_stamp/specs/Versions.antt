@@ -1,6 +1,6 @@
 -- Versions of the classes, the rows that split them, and the needed pairs that passed under one.
-use Rattle.std.specs.Prelude.{◌≡◌, ℕ, ◌-◌, ◌<◌, ◌≤◌, List, length, Bool, not}
-use Rattle.circ_model.specs.Meaning.{Pair, places_of, value_in}
+use Rattle.std.specs.Prelude.{◌≡◌, ℕ, ◌-◌, ◌<◌, ◌≤◌, List, length, Bool}
+use Rattle.circ_model.specs.Meaning.{Pair, places_of}
 use Rattle.circ_model.specs.Runs.{phases}
 use Rattle.circ_model.specs.Correspondence.{Corresponds, MaySplit}
 use Rattle.class_partition.specs.Classes.{Classes, ArePartition, IsNeeded, KeepsGreatest, Passes, class_count, needed, one_class}
@@ -41,10 +41,6 @@ pub record Split : Type 0 where
 pub record IsVector (x : Split) : Type 0 where
   pub size : length x.bits ≡ places_of x.pair
   pub may : MaySplit x.pair x.k x.bits
-
--- two literals differ in a row
-abbrev pub Separates : List Bool → ℕ × ℕ → Type 0
-Separates bits p = value_in bits p.0 ≡ not (value_in bits p.1)
 
 -- the frames of a version's two questions: k from reset, and k + 1 from any state, in all but the last of which its classes hold
 abbrev pub base_of : Standing → Unrolling

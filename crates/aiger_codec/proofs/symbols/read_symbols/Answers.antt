@@ -1,4 +1,4 @@
-use Rattle.std.proofs.Common.{inl, inr, sym, ◌∙◌, arith}
+use Rattle.std.proofs.Common.{inl, inr, sym, arith}
 use Rattle.std.proofs.lemmas.Result.{err_from_is_err_and}
 use Rattle.aiger_codec.proofs.SymbolSteps.{symbol_after, left_more, left_fails, left_done}
 use Rattle.aiger_codec.proofs.symbols.read_symbols.Goals as goal

@@ -1,8 +1,6 @@
 use Rattle.std.proofs.Common.{◌≡◌, ◌∙◌, ◌++◌, length, ap, ap₂, arith, replicate, [], ℕ}
 use Rattle.std.specs.List.{range_with_len}
-use Rattle.std.proofs.lemmas.Result.{IfOk-weaker}
 use Rattle.circ_model.specs.Netlist.{Netlist}
-use Rattle.aig_graph.specs.Finish.{IsFinished}
 use Rattle.net_reduce.specs.Stub.{stub_of}
 use Rattle.net_reduce.proofs.Numbering.{few_inputs, finished_as_given}
 use Rattle.net_reduce.proofs.stubs.stub_like.Goals as goal

@@ -1,8 +1,6 @@
-use Rattle.std.proofs.Common.{◌≡◌, ◌∙◌, ℕ, List, [], ◌∷◌, ◌++◌, true, All, refl, sym, ap, subst}
-use Rattle.circ_model.specs.Meaning.{Pair}
+use Rattle.std.proofs.Common.{◌≡◌, ◌∙◌, ◌++◌, sym, ap, subst}
 use Rattle.claim_word.specs.Seats.{SeatState, both}
 use Rattle.claim_word.specs.Words.{version_of}
-use Rattle.pair_pool.specs.declared.worker.Claimed.{Claimed}
 use Rattle.pair_pool.specs.Claims.{AreFound, claimed_at, places}
 use Rattle.pair_pool.proofs.Gathered.{are_once, found_by_last, found_more, listed_more, seated_last}
 use Rattle.pair_pool.proofs.crew.gather.Goals as goal

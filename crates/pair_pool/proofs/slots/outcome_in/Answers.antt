@@ -1,4 +1,4 @@
-use Rattle.std.proofs.Common.{◌≡◌, ◌∙◌, ◌<◌, Option, IfSome, Some, length, sym, subst, arith}
+use Rattle.std.proofs.Common.{◌∙◌, ◌<◌, Option, IfSome, length, sym, subst, arith}
 use Rattle.pair_pool.specs.declared.outcome.Outcome.{Outcome}
 use Rattle.pair_pool.specs.Outcomes.{IsOutcomeAt}
 use Rattle.pair_pool.proofs.slots.outcome_in.Goals as goal

@@ -1,7 +1,7 @@
 use Rattle.std.proofs.Common.{◌<◌, ℕ, sym, subst}
 use Rattle.circ_model.specs.Meaning.{places_of}
 use Rattle.class_partition.specs.Classes.{Classes, class_count, needed}
-use Rattle.verdict_stamp.specs.Versions.{Separates}
+use Rattle.circ_model.specs.Correspondence.{Separates}
 use Rattle.refine_board.specs.States.{IsNeededPair}
 use Rattle.refine_board.specs.Answers.{cut_step}
 use Rattle.refine_board.specs.Closings.{DecidesPair}

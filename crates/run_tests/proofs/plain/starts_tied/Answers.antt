@@ -1,4 +1,4 @@
-use Rattle.std.proofs.Common.{◌≡◌, ◌∙◌, Bool, List, [], refl, sym, arith}
+use Rattle.std.proofs.Common.{◌∙◌, [], refl, sym, arith}
 use Rattle.circ_model.specs.Meaning.{Path}
 use Rattle.product_machine.proofs.Partners.{partner_tied, partner_within, starts_like_partner, bits_same, bits_equal}
 use Rattle.run_tests.proofs.plain.starts_tied.Goals as goal

@@ -1,4 +1,4 @@
-use Rattle.std.proofs.Common.{◌<◌, ℕ, pos, length, get_or}
+use Rattle.std.proofs.Common.{◌<◌, ℕ, pos, get_or}
 use Rattle.cnf_store.specs.Clauses.{IsLiteral}
 use Rattle.solver_tests.proofs.formulas.are_literals.Given as goal
 
