@@ -5,6 +5,7 @@ use Rattle.class_partition.specs.Classes.{Classes, HoldIn}
 use Rattle.and_graph.specs.declared.node.Node.{Node}
 use Rattle.and_graph.specs.Graphs.{Obeys}
 use Rattle.frame_graph.specs.declared.frame.Frame.{Frame}
+use Rattle.frame_graph.specs.declared.frame.LeafRange.{LeafRange}
 use Rattle.frame_graph.specs.Leaves.{Leaves, Reads}
 use Rattle.frame_graph.specs.Maps.{Shows}
 
@@ -23,7 +24,10 @@ pub record Stands (f : FrameOf) (literals : List ℕ) (path : Path) (v : ℕ →
   pub reads : Reads f.leaves path v
   pub shows : Shows f.leaves.pair literals path v
 
--- as the code has it
+-- as the code has leaves, and a frame
+abbrev pub leaves_of : LeafRange → Leaves
+leaves_of l = record { pair = l.product.now; frames = l.frames; first = l.first }
+
 abbrev pub frame_of : Frame → FrameOf
 frame_of f = record { leaves = record { pair = f.product.now; frames = f.frames; first = f.first }; from_reset = f.from_reset; number = f.number }
 

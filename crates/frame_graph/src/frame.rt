@@ -4,6 +4,14 @@ ghost use Rattle.circ_model.specs.Meaning.{latches_of, places_of};
 
 use product_machine::Product;
 
+// Leaves of a graph, from a node on, for so many frames of a pair.
+#[derive(Drop)]
+pub(crate) struct LeafRange<'p> {
+    pub product: &'p Product,
+    pub frames: u32,
+    pub first: u32,
+}
+
 // A frame by its number, of paths from reset or from any state, where a graph has leaves for so many frames from a node on. Its
 // literals begin at its number times the places.
 #[derive(Drop)]

@@ -15,7 +15,7 @@ ghost use Rattle.frame_graph.specs.Leaves.{AreLeaves, leaf_count};
 ghost use Rattle.frame_graph.specs.Maps.{AreWithin, IsResetMap, IsStepMap, Shows, induction_of};
 ghost use Rattle.frame_graph.specs.Owed.{AreEqualWhere, IsOwed};
 
-use crate::frame::Frame;
+use crate::frame::{Frame, LeafRange};
 use crate::frames::{push_reset_frame, push_reset_frames, push_step_frames};
 use crate::leaf::Leaf;
 use crate::literals::{class_literal, literal_from, needed_literals};
@@ -159,10 +159,13 @@ impl<'p> FrameMap<'p> {
     {
         self.literals.clear();
         self.depth = k;
+        let leaves = LeafRange {
+            product: self.product,
+            frames: self.frames,
+            first: self.first,
+        };
         push_reset_frames(
-            self.product,
-            self.frames,
-            self.first,
+            &leaves,
             graph,
             &mut self.literals,
             k,
@@ -179,10 +182,13 @@ impl<'p> FrameMap<'p> {
         ensures depth { OnOk result (self.new.depth ≡ self.old.depth + 1) }
         ensures map { OnOk result (IsResetMap graph.new self.new) }
     {
+        let leaves = LeafRange {
+            product: self.product,
+            frames: self.frames,
+            first: self.first,
+        };
         push_reset_frame(
-            self.product,
-            self.frames,
-            self.first,
+            &leaves,
             graph,
             &mut self.literals,
             self.depth,
@@ -210,10 +216,13 @@ impl<'p> FrameMap<'p> {
     {
         self.literals.clear();
         self.depth = k;
+        let leaves = LeafRange {
+            product: self.product,
+            frames: self.frames,
+            first: self.first,
+        };
         push_step_frames(
-            self.product,
-            self.frames,
-            self.first,
+            &leaves,
             graph,
             classes,
             &mut self.literals,

@@ -130,7 +130,13 @@ impl Product {
         let lefts = self.left.latches().len() as u32;
         let gates = self.left.gates().len() as u32;
         let rights = self.right.latches().len() as u32;
-        place_free(state, inputs, values, given, lefts, gates, rights);
+        let widths = Widths {
+            given,
+            lefts,
+            gates,
+            rights,
+        };
+        place_free(state, inputs, values, &widths);
         self.fill(state, inputs, values);
     }
 
@@ -300,26 +306,28 @@ fn place_like(cell: Cell) -> Option<u32>
     }
 }
 
-// Writes the bits of inputs and latches at their places_of.
-fn place_free(
-    state: &BitRow,
-    inputs: &BitRow,
-    values: &mut BitRow,
+// How many inputs, latches and gates of the left side, and latches of the right side there are.
+#[derive(Drop)]
+struct Widths {
     given: u32,
     lefts: u32,
     gates: u32,
     rights: u32,
-)
-    requires states { length state.now ≡ lefts + rights }
-    requires inputs { length inputs.now ≡ given }
-    requires size { 1 + given + lefts + gates + rights ≤ length values.old }
-    requires room { 1 + given + lefts + gates + rights < 4294967296 }
+}
+
+// Writes the bits of inputs and latches at their places.
+fn place_free(state: &BitRow, inputs: &BitRow, values: &mut BitRow, widths: &Widths)
+    requires states { length state.now ≡ widths.now.lefts + widths.now.rights }
+    requires inputs { length inputs.now ≡ widths.now.given }
+    requires size { 1 + widths.now.given + widths.now.lefts + widths.now.gates + widths.now.rights ≤ length values.old }
+    requires room { 1 + widths.now.given + widths.now.lefts + widths.now.gates + widths.now.rights < 4294967296 }
     ensures size { length values.new ≡ length values.old }
-    ensures inputs { (k : ℕ) → k < given → bit values.new (1 + k) ≡ bit inputs.now k }
-    ensures left { (k : ℕ) → k < lefts → bit values.new (1 + given + k) ≡ bit state.now k }
-    ensures right { (k : ℕ) → k < rights → bit values.new (1 + given + lefts + gates + k) ≡ bit state.now (lefts + k) }
+    ensures inputs { (k : ℕ) → k < widths.now.given → bit values.new (1 + k) ≡ bit inputs.now k }
+    ensures left { (k : ℕ) → k < widths.now.lefts → bit values.new (1 + widths.now.given + k) ≡ bit state.now k }
+    ensures right { (k : ℕ) → k < widths.now.rights → bit values.new (1 + widths.now.given + widths.now.lefts + widths.now.gates + k) ≡ bit state.now (widths.now.lefts + k) }
 {
-    values.copy_bits(1, inputs, 0, given);
-    values.copy_bits(1 + given, state, 0, lefts);
-    values.copy_bits(1 + given + lefts + gates, state, lefts, rights);
+    let right_at = 1 + widths.given + widths.lefts + widths.gates;
+    values.copy_bits(1, inputs, 0, widths.given);
+    values.copy_bits(1 + widths.given, state, 0, widths.lefts);
+    values.copy_bits(right_at, state, widths.lefts, widths.rights);
 }

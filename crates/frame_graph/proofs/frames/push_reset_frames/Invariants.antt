@@ -1,6 +1,7 @@
 use Rattle.std.proofs.Common.{◌≡◌, ◌*◌, ℕ, Bool, length}
 use Rattle.circ_model.specs.Meaning.{Path, places_of}
 use Rattle.and_graph.specs.Graphs.{GrowsTo, Obeys}
+use Rattle.frame_graph.specs.Frames.{leaves_of}
 use Rattle.frame_graph.specs.Inductions.{IsRunTo}
 use Rattle.frame_graph.specs.Leaves.{Reads}
 use Rattle.frame_graph.specs.Maps.{AreWithin, Shows}
@@ -8,8 +9,8 @@ use Rattle.frame_graph.proofs.frames.push_reset_frames.Given as goal
 
 abbrev pub invariant-loop-number : goal.invariant-loop-number
 invariant-loop-number l = record {
-  size : length l.literals.items ≡ l.number * places_of l.product;
+  size : length l.literals.items ≡ l.number * places_of l.leaves.product.now;
   on : GrowsTo l.fn.graph l.graph;
   within : AreWithin l.graph l.literals.items;
-  shows : (run : Path) (v : ℕ → Bool) → IsRunTo l.product l.k run → Obeys l.graph v → Reads (record { pair = l.product; frames = l.frames; first = l.first }) run v → Shows l.product l.literals.items run v;
+  shows : (run : Path) (v : ℕ → Bool) → IsRunTo l.leaves.product.now l.k run → Obeys l.graph v → Reads (leaves_of l.leaves) run v → Shows l.leaves.product.now l.literals.items run v;
 }
