@@ -5,6 +5,7 @@ ghost use Rattle.refine_board.specs.Running.{IsAsked};
 ghost use Rattle.verdict_stamp.specs.Published.{IsStampOf};
 
 use crate::circuits::{DELAY, LATE_DELAY, NOTHING, TOGGLE, pair_of};
+use crate::known::known_turns;
 use crate::proving::proof_of;
 use class_partition::Classes;
 use product_machine::Product;
@@ -14,7 +15,7 @@ use std::marker::Brand;
 use std::sync::Wait;
 use std::sync::ledger::Blank;
 use std::test::Fail;
-use verdict_stamp::{Proof, Stamp, Version, Versions, greatest_classes};
+use verdict_stamp::{Known, Proof, Stamp, Version, Versions, greatest_classes};
 
 // An offer, and its version.
 #[derive(Drop)]
@@ -156,52 +157,17 @@ fn two_turns<'v, 'p, L: Run>(
     rt: &impl Wait,
     alloc: Global,
     board: &mut Board<'v, 'p, L>,
-    works: &mut Vec<Work<'v, 'p, L>>,
 ) -> Result<[usize; 3], AllocError>
     requires workers { 2 ≤ L.workers }
 {
-    let (first, second, answer) = (Turn::First, Turn::Second, Turn::Answer);
-    take_turns(rt, alloc, board, works, &[first, second])?;
-    let both = [index_of(works, 0), index_of(works, 1)];
-    take_turns(rt, alloc, board, works, &[answer, answer, first])?;
-    let next = index_of(works, 0);
-    take_turns(rt, alloc, board, works, &[second, answer, second])?;
-    Ok([both[0], both[1], next])
-}
-
-// What two workers leave: the version, the journal, and the indices of the first three offers.
-#[derive(Drop)]
-struct BoardEnd<'p> {
-    version: Version<'p>,
-    journal: Journal,
-    indices: [usize; 3],
-}
-
-fn two_workers<'v, 'p, L: Run>(
-    rt: &impl Wait,
-    alloc: Global,
-    blank: Blank,
-    versions: &'v Versions<'p>,
-    first: Version<'p>,
-    workers: u32,
-) -> Result<BoardEnd<'p>, AllocError>
-    requires name { (blank.name ≡ L.name) × (blank.parts ≡ L.parts) }
-    requires parts { 2 ^ 62 ≤ L.parts }
-    requires run { (first.pair ≡ L.pair) × (first.k ≡ L.k) }
-    requires workers { (workers ≡ L.workers) × (2 ≤ L.workers) }
-    requires opening { L.opening ≡ opened L.pair L.workers first.classes first.number }
-    requires list { L.list ≡ versions.now }
-{
     let mut works = Vec::new(alloc);
-    let mut board = Board::<'v, 'p, L>::open(alloc, blank, versions, first, workers)?;
-    let played = two_turns(rt, alloc, &mut board, &mut works);
-    drop(works);
-    let (version, journal) = board.close();
-    Ok(BoardEnd {
-        version,
-        journal,
-        indices: played?,
-    })
+    let (first, second, answer) = (Turn::First, Turn::Second, Turn::Answer);
+    take_turns(rt, alloc, board, &mut works, &[first, second])?;
+    let both = [index_of(&works, 0), index_of(&works, 1)];
+    take_turns(rt, alloc, board, &mut works, &[answer, answer, first])?;
+    let next = index_of(&works, 0);
+    take_turns(rt, alloc, board, &mut works, &[second, answer, second])?;
+    Ok([both[0], both[1], next])
 }
 
 fn word_of(step: &Step) -> &'static str {
@@ -261,15 +227,95 @@ pub(crate) fn begins_so(journal: &Journal, entries: &[(u32, u64, &str, [u32; 2])
     true
 }
 
-// What two workers make of a pair, from its first version.
+// Who plays on a board: two workers by turns; two of which the second answers by what is known; or three, whose turns are drawn
+// from a seed.
+#[derive(Drop)]
+pub(crate) enum Play<'a, 'p> {
+    ByTurns,
+    ByKnown(&'a Known<'p>),
+    Drawn(u64),
+}
+
+// What a play leaves: the version, the journal, of workers by turns the indices of the first three offers, and of drawn turns
+// whether the replay of the journal had the board's classes at each.
+#[derive(Drop)]
+pub(crate) struct BoardEnd<'p> {
+    pub(crate) version: Version<'p>,
+    pub(crate) journal: Journal,
+    indices: [usize; 3],
+    is_replayed: bool,
+}
+
+// Plays on a board.
+fn play<'v, 'p, L: Run>(
+    rt: &impl Wait,
+    alloc: Global,
+    board: &mut Board<'v, 'p, L>,
+    who: Play<'_, 'p>,
+) -> Result<([usize; 3], bool), AllocError>
+    requires workers { 3 ≤ L.workers }
+{
+    match who {
+        Play::ByTurns => Ok((two_turns(rt, alloc, board)?, true)),
+        Play::ByKnown(known) => {
+            known_turns(rt, alloc, board, known)?;
+            Ok(([9; 3], true))
+        }
+        Play::Drawn(seed) => Ok(([9; 3], drawn_turns(rt, alloc, board, seed)?)),
+    }
+}
+
+// The same on a board of three workers that is opened for it.
+fn play_from<'v, 'p, L: Run>(
+    rt: &impl Wait,
+    alloc: Global,
+    blank: Blank,
+    versions: &'v Versions<'p>,
+    first: Version<'p>,
+    who: Play<'_, 'p>,
+) -> Result<BoardEnd<'p>, AllocError>
+    requires name { (blank.name ≡ L.name) × (blank.parts ≡ L.parts) }
+    requires parts { 2 ^ 62 ≤ L.parts }
+    requires run { (first.pair ≡ L.pair) × (first.k ≡ L.k) }
+    requires workers { L.workers ≡ 3 }
+    requires opening { L.opening ≡ opened L.pair L.workers first.classes first.number }
+    requires list { L.list ≡ versions.now }
+{
+    let mut board = Board::<'v, 'p, L>::open(alloc, blank, versions, first, 3)?;
+    let played = play(rt, alloc, &mut board, who);
+    let (version, journal) = board.close();
+    let (indices, is_replayed) = played?;
+    Ok(BoardEnd {
+        version,
+        journal,
+        indices,
+        is_replayed,
+    })
+}
+
+// What they make of a pair, from its first version for induction over k frames.
+pub(crate) fn played<'p>(
+    rt: &impl Wait,
+    alloc: Global,
+    product: &'p Product,
+    k: u32,
+    who: Play<'_, 'p>,
+) -> Result<BoardEnd<'p>, AllocError>
+    requires some { 0 < k }
+    requires few { k ≤ 16 }
+{
+    let first = Version::first(alloc, product, k)?;
+    let versions = Versions::new(alloc)?;
+    play_from::<Brand>(rt, alloc, Blank::new(1 << 62), &versions, first, who)
+}
+
+// What two workers make of a pair.
 fn worked<'p>(
     rt: &impl Wait,
     alloc: Global,
     product: &'p Product,
 ) -> Result<BoardEnd<'p>, AllocError> {
-    let first = Version::first(alloc, product, 1)?;
-    let versions = Versions::new(alloc)?;
-    two_workers::<Brand>(rt, alloc, Blank::new(1 << 62), &versions, first, 2)
+    played(rt, alloc, product, 1, Play::ByTurns)
 }
 
 #[test]
@@ -289,7 +335,7 @@ fn is_as_replayed(
     worked: &BoardEnd<'_>,
 ) -> Result<bool, AllocError> {
     let first = Version::first(alloc, product, 1)?;
-    let classes = replay(alloc, &first, 2, &worked.journal)?;
+    let classes = replay(alloc, &first, 3, &worked.journal)?;
     Ok(same_classes(&classes, worked.version.classes()))
 }
 
@@ -420,18 +466,18 @@ fn drawn_turns<'v, 'p, L: Run>(
     rt: &impl Wait,
     alloc: Global,
     board: &mut Board<'v, 'p, L>,
-    works: &mut Vec<Work<'v, 'p, L>>,
     seed: u64,
 ) -> Result<bool, AllocError>
     requires workers { 3 ≤ L.workers }
 {
+    let mut works = Vec::new(alloc);
     let mut state = seed;
     let mut same = true;
     for _turn in 0..40u32 {
         state = state
             .wrapping_mul(6364136223846793005)
             .wrapping_add(1442695040888963407);
-        if !drawn_turn(rt, alloc, board, works, (state >> 33) as usize)? {
+        if !drawn_turn(rt, alloc, board, &mut works, (state >> 33) as usize)? {
             same = false;
         }
     }
@@ -444,30 +490,6 @@ fn drawn_turns<'v, 'p, L: Run>(
     Ok(same)
 }
 
-fn drawn_end<'v, 'p, L: Run>(
-    rt: &impl Wait,
-    alloc: Global,
-    blank: Blank,
-    versions: &'v Versions<'p>,
-    first: Version<'p>,
-    workers: u32,
-    seed: u64,
-) -> Result<(Version<'p>, bool), AllocError>
-    requires name { (blank.name ≡ L.name) × (blank.parts ≡ L.parts) }
-    requires parts { 2 ^ 62 ≤ L.parts }
-    requires run { (first.pair ≡ L.pair) × (first.k ≡ L.k) }
-    requires workers { (workers ≡ L.workers) × (3 ≤ L.workers) }
-    requires opening { L.opening ≡ opened L.pair L.workers first.classes first.number }
-    requires list { L.list ≡ versions.now }
-{
-    let mut works = Vec::new(alloc);
-    let mut board = Board::<'v, 'p, L>::open(alloc, blank, versions, first, workers)?;
-    let played = drawn_turns(rt, alloc, &mut board, &mut works, seed);
-    drop(works);
-    let (version, _) = board.close();
-    Ok((version, played?))
-}
-
 // Whether a drawn schedule of a pair ends at its greatest classes.
 fn ends_at_greatest(
     rt: &impl Wait,
@@ -476,18 +498,8 @@ fn ends_at_greatest(
     greatest: &Classes,
     seed: u64,
 ) -> Result<bool, AllocError> {
-    let first = Version::first(alloc, product, 1)?;
-    let versions = Versions::new(alloc)?;
-    let (version, same) = drawn_end::<Brand>(
-        rt,
-        alloc,
-        Blank::new(1 << 62),
-        &versions,
-        first,
-        3,
-        seed,
-    )?;
-    Ok(same && same_classes(version.classes(), greatest))
+    let end = played(rt, alloc, product, 1, Play::Drawn(seed))?;
+    Ok(end.is_replayed && same_classes(end.version.classes(), greatest))
 }
 
 // The same for four seeds.

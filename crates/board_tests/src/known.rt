@@ -1,17 +1,14 @@
 //! What is known from induction over fewer frames: its pairs stay counted while the classes split.
-ghost use Rattle.std.specs.Prelude.{◌≡◌, ◌≤◌, ◌+◌, ◌<◌, ◌^◌, IfOk};
-ghost use Rattle.refine_board.specs.Schedules.{opened};
+ghost use Rattle.std.specs.Prelude.{◌≤◌, ◌+◌, ◌<◌};
 
-use crate::boards::{Work, answer, ask, begins_so};
+use crate::boards::{Play, Work, answer, ask, begins_so, played};
 use crate::circuits::{STUCK, pair_of};
 use product_machine::Product;
-use refine_board::{Board, Journal, Run};
+use refine_board::{Board, Run};
 use std::alloc::{AllocError, Global};
-use std::marker::Brand;
 use std::sync::Wait;
-use std::sync::ledger::Blank;
 use std::test::Fail;
-use verdict_stamp::{Known, Verdict, Version, Versions, greatest_classes};
+use verdict_stamp::{Known, Verdict, greatest_classes};
 
 // Answers an offer by what is known of its pair, or gives it back where nothing is.
 fn answer_known<'v, 'p, L: Run>(
@@ -42,7 +39,7 @@ fn answer_known<'v, 'p, L: Run>(
 
 // The first party takes a pair, the second answers one by what is known; then the first splits the classes. What is open then the
 // first answers by what is known.
-fn known_turns<'v, 'p, L: Run>(
+pub(crate) fn known_turns<'v, 'p, L: Run>(
     rt: &impl Wait,
     alloc: Global,
     board: &mut Board<'v, 'p, L>,
@@ -59,45 +56,13 @@ fn known_turns<'v, 'p, L: Run>(
     answer_known(rt, alloc, board, known, 1)
 }
 
-fn known_journal<'v, 'p, L: Run>(
-    rt: &impl Wait,
-    alloc: Global,
-    blank: Blank,
-    versions: &'v Versions<'p>,
-    first: Version<'p>,
-    workers: u32,
-    known: &Known<'p>,
-) -> Result<Journal, AllocError>
-    requires name { (blank.name ≡ L.name) × (blank.parts ≡ L.parts) }
-    requires parts { 2 ^ 62 ≤ L.parts }
-    requires run { (first.pair ≡ L.pair) × (first.k ≡ L.k) }
-    requires workers { (workers ≡ L.workers) × (2 ≤ L.workers) }
-    requires opening { L.opening ≡ opened L.pair L.workers first.classes first.number }
-    requires list { L.list ≡ versions.now }
-{
-    let mut board = Board::<'v, 'p, L>::open(alloc, blank, versions, first, workers)?;
-    let played = known_turns(rt, alloc, &mut board, known);
-    let (_, journal) = board.close();
-    played?;
-    Ok(journal)
-}
-
 // Whether the pair of the constant and the left latch, which is known from one frame, stays counted on a board for two frames
 // when the input is split off.
 fn stays_counted(rt: &impl Wait, alloc: Global, product: &Product) -> Result<bool, AllocError> {
     let greatest = greatest_classes(alloc, product, 1)?;
     let known = Known::of(alloc, greatest.product(), greatest.k(), greatest.classes())?;
-    let first = Version::first(alloc, product, 2)?;
-    let versions = Versions::new(alloc)?;
-    let journal = known_journal::<Brand>(
-        rt,
-        alloc,
-        Blank::new(1 << 62),
-        &versions,
-        first,
-        2,
-        &known,
-    )?;
+    let end = played(rt, alloc, product, 2, Play::ByKnown(&known))?;
+    let journal = &end.journal;
     let entries = [
         (0, 0, "offered", [0, 1]),
         (1, 0, "offered", [0, 2]),
@@ -107,7 +72,7 @@ fn stays_counted(rt: &impl Wait, alloc: Global, product: &Product) -> Result<boo
         (0, 3, "counted", [0, 3]),
         (1, 2, "done", [0, 0]),
     ];
-    Ok(journal.len() == 7 && begins_so(&journal, entries.as_slice()))
+    Ok(journal.len() == 7 && begins_so(journal, entries.as_slice()))
 }
 
 #[test]

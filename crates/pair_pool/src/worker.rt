@@ -13,6 +13,13 @@ use std::alloc::Global;
 use std::sync::Wait;
 use std::thread::Threads;
 
+/// The pairs of a list, and over how many frames the induction goes.
+#[derive(Drop)]
+pub(crate) struct Task<'a> {
+    pub(crate) products: &'a [Product],
+    pub(crate) k: u32,
+}
+
 /// A worker's number, and its seat at the word.
 #[derive(Drop)]
 pub(crate) struct Chair {
@@ -38,19 +45,18 @@ pub(crate) struct Done {
 fn settle<R: Threads + Wait + Sync>(
     rt: &R,
     alloc: Global,
-    products: &[Product],
-    k: u32,
+    task: &Task<'_>,
     index: u32,
 ) -> Option<Outcome>
-    requires some { 0 < k }
-    requires few { k ≤ 16 }
-    ensures { IfSome result (IsOutcomeAt products.now k index) }
+    requires some { 0 < task.now.k }
+    requires few { task.now.k ≤ 16 }
+    ensures { IfSome result (IsOutcomeAt task.now.products.now task.now.k index) }
 {
     let at = index as usize;
-    if at >= products.len() {
+    if at >= task.products.len() {
         return None;
     }
-    match outcome_of(rt, alloc, &products[at], k) {
+    match outcome_of(rt, alloc, &task.products[at], task.k) {
         Ok(outcome) => Some(outcome),
         Err(_) => None,
     }
@@ -73,16 +79,15 @@ pub(crate) fn work<R: Threads + Wait + Sync, G: Gate>(
     rt: &R,
     alloc: Global,
     word: &ClaimWord,
-    products: &[Product],
-    k: u32,
+    task: &Task<'_>,
     gate: &G,
     chair: Chair,
 ) -> Done
     requires seat { chair.seat ≡ beside word.now }
-    requires some { 0 < k }
-    requires few { k ≤ 16 }
+    requires some { 0 < task.now.k }
+    requires few { task.now.k ≤ 16 }
     ensures seated { IsSeated word.now result }
-    ensures found { HasFound products.now k result }
+    ensures found { HasFound task.now.products.now task.now.k result }
 {
     let Chair { worker, mut seat } = chair;
     let mut claimed = Vec::new(alloc);
@@ -93,7 +98,7 @@ pub(crate) fn work<R: Threads + Wait + Sync, G: Gate>(
         match claim(word, gate, worker, call, &mut seat) {
             Claim::Mine(_, index) => {
                 gate.works(worker, call);
-                let outcome = settle(rt, alloc, products, k, index);
+                let outcome = settle(rt, alloc, task, index);
                 let is_out = outcome.is_none();
                 claimed.push_reserved(Claimed { index, outcome });
                 if is_out {

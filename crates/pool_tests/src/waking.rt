@@ -19,7 +19,7 @@ use std::test::Fail;
 use std::thread;
 use std::thread::{Threads, yield_now};
 use verdict_stamp::{Version, Versions};
-use work_desk::{Asked, Caller, Desk, Seat, seats};
+use work_desk::{Asked, Blanks, Caller, Desk, Seat, seats};
 
 // How many calls each of two workers was answered. The second waits at its first call until the first has been answered one.
 #[derive(Drop)]
@@ -74,14 +74,6 @@ fn toggles(alloc: Global) -> Result<Product, PairFault> {
         (Ok(left), Ok(right)) => Product::new(alloc, left, right),
         _ => Err(PairFault::Memory),
     }
-}
-
-// The ledgers of a run of two workers: of the offers that the board made, of the workers' ends, and of the answers that they owe.
-#[derive(Drop)]
-struct Blanks {
-    offers: Blank,
-    ends: Blank,
-    owed: Blank,
 }
 
 // Takes a pair, and stops the run when the other worker has found none and has had time to fall asleep. Whether the stop woke it,

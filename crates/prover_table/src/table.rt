@@ -61,27 +61,8 @@ impl<'v, 'p, L: Run> Table<'v, 'p, L> {
         memory_of::<L>(bench).or(memory)
     }
 
-    // What comes of an offered pair at the bench, which is turned to the offer's version.
-    fn find(
-        &mut self,
-        alloc: Global,
-        lent: &Lent<'v, 'p, L>,
-        asker: &mut Asker,
-        offer: &Offer<'p, L>,
-    ) -> Result<Proof<'v, 'p>, Halt>
-        ensures found { IfOk result (IsFoundFor L.pair L.k offer.now) }
-        ensures most { asker.new.most ≡ asker.old.most }
-        ensures halt { IfErr result (IsHalted asker.old asker.new) }
-        ensures bench { IfErr result (λ h. h ≡ Posed → self.new ≡ true) }
-    {
-        let bench = self.bench.take();
-        let mut at = bench_for(alloc, lent, bench, &mut self.memory, offer.stamp())?;
-        let found = find_at(alloc, lent, &mut at, asker, offer);
-        self.bench = Some(at);
-        found
-    }
-
-    /// The same. A question over a large cone is put aside in the worker's asker, and that the pair isn't settled is noted.
+    /// What comes of an offered pair at the bench, which is turned to the offer's version. A question over a large cone is put aside in
+    /// the worker's asker, and that the pair isn't settled is noted.
     pub fn settle(
         &mut self,
         alloc: Global,
@@ -94,7 +75,11 @@ impl<'v, 'p, L: Run> Table<'v, 'p, L> {
         ensures halt { IfErr result (IsHalted asker.old asker.new) }
         ensures bench { IfErr result (λ h. h ≡ Posed → self.new ≡ true) }
     {
-        let found = self.find(alloc, lent, asker, offer);
+        self.note(offer.party(), None);
+        let bench = self.bench.take();
+        let mut at = bench_for(alloc, lent, bench, &mut self.memory, offer.stamp())?;
+        let found = find_at(alloc, lent, &mut at, asker, offer);
+        self.bench = Some(at);
         self.note(offer.party(), unsettled(offer, &found));
         found
     }

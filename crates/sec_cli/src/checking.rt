@@ -24,7 +24,7 @@ use product_machine::Product;
 use refine_board::Journal;
 use run_texts::{different_line, equivalent_line, push_numbers, undecided_head};
 use sec_base::Gate;
-use split_workers::{Earlier, Refined, refine_known};
+use split_workers::{Earlier, Refined, Task, refine_known};
 use std::alloc::{AllocError, Global};
 use std::sync::Wait;
 use std::thread::Threads;
@@ -335,7 +335,12 @@ pub(crate) fn check_beyond<'p, R: Threads + Wait + Sync, G: Gate>(
     let _sound = product.cells();
     let agreed = reached.agreed;
     let earlier = &mut reached.earlier;
-    let refined = refine_known(rt, alloc, product, c.k, c.workers, gate, earlier)?;
+    let task = Task {
+        product,
+        k: c.k,
+        workers: c.workers,
+    };
+    let refined = refine_known(rt, alloc, task, gate, earlier)?;
     concluded(alloc, product, c, refined, agreed)
 }
 

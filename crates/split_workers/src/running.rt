@@ -22,7 +22,7 @@ use std::sync::ledger::{Blank, Ledger};
 use std::thread;
 use std::thread::Threads;
 use verdict_stamp::{Known, ProverMemory, Version, Versions};
-use work_desk::{Desk, Seat, seats};
+use work_desk::{Blanks, Desk, Seat, seats};
 
 /// What a run comes to.
 #[derive(Drop)]
@@ -33,15 +33,6 @@ pub struct Refined<'p> {
     pub journal: Journal,
     /// How many calls of each kind each worker made.
     pub reports: Vec<WorkReport>,
-}
-
-// The ledgers of a run, for which no name stands yet: of the offers that the board made, of its workers' ends, and of the
-// answers that they owe.
-#[derive(Drop)]
-struct Blanks {
-    offers: Blank,
-    ends: Blank,
-    owed: Blank,
 }
 
 // What a run begins with: the list that it publishes its versions in, its first version, the classes of an earlier k where they
@@ -122,39 +113,40 @@ fn refine_named<
     })
 }
 
-// What a run is of: the pair, over how many frames the induction goes, the classes of an earlier k where they are known, and how
-// many workers it has.
+/// What a run is to refine: the classes of a pair for induction over k frames, by so many workers.
 #[derive(Drop)]
-struct Start<'a, 'p> {
-    product: &'p Product,
-    k: u32,
-    known: Option<&'a Known<'p>>,
-    workers: u32,
+pub struct Task<'p> {
+    /// The pair of netlists.
+    pub product: &'p Product,
+    /// Over how many frames the induction goes.
+    pub k: u32,
+    /// How many workers the run has.
+    pub workers: u32,
 }
 
 // A run from its opening on. It goes on with what was proved before, and leaves what was proved.
 fn refine_with<'p, R: Threads + Wait + Sync, G: Gate>(
     rt: &R,
     alloc: Global,
-    start: Start<'_, 'p>,
+    task: Task<'p>,
+    known: Option<&Known<'p>>,
     memory: &mut Option<ProverMemory<'p>>,
     gate: &G,
 ) -> Result<Refined<'p>, AllocError>
-    requires some { 0 < start.k }
-    requires few { start.k ≤ 16 }
-    requires workers { (0 < start.workers) × (start.workers ≤ 64) }
-    requires earlier { IfSome start.known (λ n. IsKnownFor start.product.now start.k n.now) }
-    requires memory { IfSome memory.old (IsMemoryFor start.product.now start.k) }
-    ensures refined { IfOk result (λ r. IsRefined start.entry.product.now start.entry.k start.entry.workers r.version r.journal.entries) }
-    ensures reports { IfOk result (λ r. AreReports start.entry.workers r.journal.entries r.reports.items) }
-    ensures memory { IfSome memory.new (IsMemoryFor start.entry.product.now start.entry.k) }
+    requires some { 0 < task.k }
+    requires few { task.k ≤ 16 }
+    requires workers { (0 < task.workers) × (task.workers ≤ 64) }
+    requires earlier { IfSome known (λ n. IsKnownFor task.product.now task.k n.now) }
+    requires memory { IfSome memory.old (IsMemoryFor task.product.now task.k) }
+    ensures refined { IfOk result (λ r. IsRefined task.entry.product.now task.entry.k task.entry.workers r.version r.journal.entries) }
+    ensures reports { IfOk result (λ r. AreReports task.entry.workers r.journal.entries r.reports.items) }
+    ensures memory { IfSome memory.new (IsMemoryFor task.entry.product.now task.entry.k) }
 {
-    let Start {
+    let Task {
         product,
         k,
-        known,
         workers,
-    } = start;
+    } = task;
     let first = Version::opening(alloc, product, k)?;
     let versions = Versions::new(alloc)?;
     refine_named::<Brand, Brand, Brand, R, G>(
@@ -193,15 +185,12 @@ pub fn refine<'p, R: Threads + Wait + Sync, G: Gate>(
     ensures refined { IfOk result (λ r. IsRefined product.entry.now k workers r.version r.journal.entries) }
     ensures reports { IfOk result (λ r. AreReports workers r.journal.entries r.reports.items) }
 {
-    refine_known(
-        rt,
-        alloc,
+    let task = Task {
         product,
         k,
         workers,
-        gate,
-        &mut Earlier::nothing(),
-    )
+    };
+    refine_known(rt, alloc, task, gate, &mut Earlier::nothing())
 }
 
 /// The same where earlier runs left something. Each pair of the classes that are known passes for k too, so the workers ask no
@@ -210,29 +199,21 @@ pub fn refine<'p, R: Threads + Wait + Sync, G: Gate>(
 pub fn refine_known<'p, R: Threads + Wait + Sync, G: Gate>(
     rt: &R,
     alloc: Global,
-    product: &'p Product,
-    k: u32,
-    workers: u32,
+    task: Task<'p>,
     gate: &G,
     earlier: &mut Earlier<'p>,
 ) -> Result<Refined<'p>, AllocError>
-    requires some { 0 < k }
-    requires few { k ≤ 16 }
-    requires workers { (0 < workers) × (workers ≤ 64) }
-    requires earlier { IsEarlierFor product.now k earlier.old }
-    ensures refined { IfOk result (λ r. IsRefined product.entry.now k workers r.version r.journal.entries) }
-    ensures reports { IfOk result (λ r. AreReports workers r.journal.entries r.reports.items) }
+    requires some { 0 < task.k }
+    requires few { task.k ≤ 16 }
+    requires workers { (0 < task.workers) × (task.workers ≤ 64) }
+    requires earlier { IsEarlierFor task.product.now task.k earlier.old }
+    ensures refined { IfOk result (λ r. IsRefined task.entry.product.now task.entry.k task.entry.workers r.version r.journal.entries) }
+    ensures reports { IfOk result (λ r. AreReports task.entry.workers r.journal.entries r.reports.items) }
     ensures known { earlier.new.known ≡ earlier.old.known }
-    ensures memory { IfSome earlier.new.memory (IsMemoryFor product.entry.now k) }
+    ensures memory { IfSome earlier.new.memory (IsMemoryFor task.entry.product.now task.entry.k) }
 {
     let known = earlier.known.take();
-    let start = Start {
-        product,
-        k,
-        known: known.as_ref(),
-        workers,
-    };
-    let refined = refine_with(rt, alloc, start, &mut earlier.memory, gate);
+    let refined = refine_with(rt, alloc, task, known.as_ref(), &mut earlier.memory, gate);
     earlier.known = known;
     refined
 }

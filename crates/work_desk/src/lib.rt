@@ -10,5 +10,5 @@ mod separated;
 
 pub use caller::Caller;
 pub use desk::{Asked, Desk};
-pub use seat::{Ledgers, Seat, seats};
+pub use seat::{Blanks, Ledgers, Seat, seats};
 pub use separated::Separated;

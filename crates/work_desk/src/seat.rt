@@ -121,6 +121,15 @@ impl<E: Ledger, O: Ledger> Ledgers<E, O> {
     }
 }
 
+/// The ledgers of a run, for which no name stands yet: of the offers that the board made, of its workers' ends, and of the answers
+/// that they owe.
+#[derive(Drop)]
+pub struct Blanks {
+    pub offers: Blank,
+    pub ends: Blank,
+    pub owed: Blank,
+}
+
 /// The ledgers of a run, and a seat for each of its workers.
 pub fn seats<E: Ledger, O: Ledger>(
     alloc: Global,
