@@ -164,12 +164,7 @@ impl<'p> FrameMap<'p> {
             frames: self.frames,
             first: self.first,
         };
-        push_reset_frames(
-            &leaves,
-            graph,
-            &mut self.literals,
-            k,
-        )?;
+        push_reset_frames(&leaves, graph, &mut self.literals, k)?;
         Ok(())
     }
 
@@ -187,12 +182,7 @@ impl<'p> FrameMap<'p> {
             frames: self.frames,
             first: self.first,
         };
-        push_reset_frame(
-            &leaves,
-            graph,
-            &mut self.literals,
-            self.depth,
-        )?;
+        push_reset_frame(&leaves, graph, &mut self.literals, self.depth)?;
         self.depth += 1;
         Ok(())
     }
@@ -221,13 +211,7 @@ impl<'p> FrameMap<'p> {
             frames: self.frames,
             first: self.first,
         };
-        push_step_frames(
-            &leaves,
-            graph,
-            classes,
-            &mut self.literals,
-            k,
-        )?;
+        push_step_frames(&leaves, graph, classes, &mut self.literals, k)?;
         Ok(())
     }
 
