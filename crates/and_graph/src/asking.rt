@@ -213,7 +213,7 @@ impl Asker {
         self.ask(alloc, nodes, lemmas, x, y, u32::MAX)
     }
 
-    // The same, where the question may be put aside. What was found of it last is answered again.
+    // Whether two literals differ, as above, where the question may be put aside. What was found of it last is answered again.
     pub(crate) fn difference_or_pose(
         &mut self,
         alloc: Global,

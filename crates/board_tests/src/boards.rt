@@ -265,7 +265,7 @@ fn play<'v, 'p, L: Run>(
     }
 }
 
-// The same on a board of three workers that is opened for it.
+// Plays on a board of three workers that is opened for it.
 fn play_from<'v, 'p, L: Run>(
     rt: &impl Wait,
     alloc: Global,
@@ -502,7 +502,7 @@ fn ends_at_greatest(
     Ok(end.is_replayed && same_classes(end.version.classes(), greatest))
 }
 
-// The same for four seeds.
+// Whether the schedules of four seeds do.
 fn end_at_greatest(rt: &impl Wait, alloc: Global, product: &Product) -> Result<bool, AllocError> {
     let greatest = greatest_classes(alloc, product, 1)?;
     for seed in 0..4u64 {

@@ -696,7 +696,7 @@ fn set_derived(derived: &mut [Derived], place: u32, lines: Derived) {
     }
 }
 
-// The same with what a line rests on.
+// What lines rest on, and what the line of a row rests on beside it.
 fn with(on: Rests, rests: &[Rests], row: u64) -> Rests {
     if row >= rests.len() as u64 {
         return on;

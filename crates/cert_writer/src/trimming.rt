@@ -176,7 +176,7 @@ pub fn trimmed(alloc: Global, given: u64, log: &Log) -> Result<Log, AllocError>
     marked_lines(alloc, given, log, marks.as_slice())
 }
 
-// The same of a log that isn't used again.
+// A log as it is trimmed, where it isn't used again.
 pub fn trim(alloc: Global, given: u64, log: Log) -> Result<Log, AllocError>
     ensures accepted { IfOk result (λ kept. (formula : Formula) → length formula.clauses ≡ given → IsAccepted formula log → IsAccepted formula kept) }
     ensures trimmed { IfOk result (IsTrimmed given) }

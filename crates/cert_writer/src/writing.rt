@@ -184,7 +184,7 @@ fn frames_of<'p>(
     with_base(alloc, product, k, classes, base, base_clauses)
 }
 
-// The same, where those from reset are made.
+// The frames of both kinds, where those from reset are made.
 fn with_base<'p>(
     alloc: Global,
     product: &'p Product,

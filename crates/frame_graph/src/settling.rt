@@ -51,7 +51,7 @@ fn settle(
     Ok(found)
 }
 
-// The same, where the question may be put aside.
+// Settles two literals, as above, where the question may be put aside.
 #[tactic(auto, using(crate::proofs::Merges::nothing_merged))]
 fn settle_or_pose(
     alloc: Global,

@@ -134,7 +134,7 @@ impl<'p> Prepared<'p> {
         }
     }
 
-    /// The same in memory of its own.
+    /// What `find_in` finds, in memory of its own.
     pub fn find(
         &self,
         alloc: Global,

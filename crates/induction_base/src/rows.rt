@@ -4,7 +4,7 @@ ghost use Rattle.std.specs.Prelude.{◌≡◌, ◌≤◌, IfOk, take, length};
 use bit_rows::{BitRow, Rows};
 use std::alloc::{AllocError, Global};
 
-// The same bits.
+// A row of the same bits.
 pub(crate) fn copy_of(alloc: Global, row: &BitRow) -> Result<BitRow, AllocError>
     ensures { IfOk result (λ r. r ≡ row.now) }
 {

@@ -31,7 +31,7 @@ fn rebuilt(alloc: Global, net: &Netlist, table: &[Lit]) -> Result<Netlist, Build
     Ok(reduced)
 }
 
-// The same: a builder of it has no cause to refuse but want of memory.
+// The reduced netlist: its builder has no cause to refuse but want of memory.
 fn replacing(alloc: Global, net: &Netlist, table: &[Lit]) -> Result<Netlist, AllocError>
     requires sound { IsSound net.now }
     requires size { length table.now ≡ net.now.max_var + 1 }

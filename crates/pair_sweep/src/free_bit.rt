@@ -32,7 +32,7 @@ fn free_bits(
     Ok(bits)
 }
 
-// The same of what was found, if anything was.
+// The free bits of the pattern that was found, if one was.
 pub(crate) fn decoded(
     alloc: Global,
     frames: &FrameMap<'_>,

@@ -154,7 +154,7 @@ fn both_go<
     Ok(went.iter().all(|as_due| *as_due))
 }
 
-// The same at a desk that is made for it.
+// Whether the stop wakes the worker at a desk that is made for it.
 fn run_that_stops<
     'p,
     L: Run + Send + Sync,
@@ -188,7 +188,7 @@ fn run_that_stops<
     both_go(rt, &desk, gate, seats)
 }
 
-// The same on a pair.
+// Whether it does on a pair.
 fn stop_wakes<R: Threads + Wait + Sync>(
     rt: &R,
     alloc: Global,

@@ -86,7 +86,7 @@ fn decide<L: Run>(
     }
 }
 
-// The same for a place whose pair is wanted; else nothing.
+// Decides the pair of a place, where it is wanted; else nothing.
 fn visit<L: Run>(
     board: &mut Board<'_, '_, L>,
     alloc: Global,

@@ -167,7 +167,7 @@ fn leaves_past<R: Threads + Wait + Sync>(
     Ok(so && shelf.get(name) == file)
 }
 
-// The same where no call fails.
+// Whether a run of which no call fails leaves this file.
 pub(crate) fn leaves<R: Threads + Wait + Sync>(
     rt: &R,
     alloc: Global,

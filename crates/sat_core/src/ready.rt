@@ -143,7 +143,7 @@ impl Ready {
         }
     }
 
-    /// The same in memory of its own.
+    /// What `solve_in` answers, in memory of its own.
     pub fn solve_with(&self, alloc: Global, own: &Cnf) -> Result<Answer, AllocError>
         requires { self.now.vars ≤ own.now.vars }
         ensures { IfOk result (IsAnswer (joined self.now own.now)) }

@@ -119,7 +119,7 @@ fn parts_of(clause: &[u32]) -> Parts {
     parts
 }
 
-// The same with one more.
+// The parts with one variable more.
 fn with(parts: Parts, var: u32) -> Parts {
     let Parts { top, first, second } = parts;
     if var > top {
@@ -143,7 +143,7 @@ fn with(parts: Parts, var: u32) -> Parts {
     }
 }
 
-// The same with a variable that stands with this one in a clause of two.
+// A row with one more variable, which stands with the row's own in a clause of two.
 fn with_one(row: Lower, var: u32) -> Lower {
     if var == row.first || var == row.second {
         row
@@ -154,7 +154,7 @@ fn with_one(row: Lower, var: u32) -> Lower {
     }
 }
 
-// The same with two variables that stand with this one in a clause of three.
+// A row with two more variables, which stand with the row's own in a clause of three.
 fn with_two(row: Lower, first: u32, second: u32) -> Lower {
     let equal = if row.first == first || row.first == second {
         row.equal

@@ -25,7 +25,7 @@ pub(crate) fn is_answered(alloc: Global, text: &[u8], satisfiable: bool) -> bool
     }
 }
 
-// The same of a formula.
+// Whether this is the answer to a formula.
 fn is_decided(alloc: Global, formula: &Cnf, satisfiable: bool) -> bool {
     match solve(alloc, formula) {
         Ok(Answer::Sat(row)) => satisfiable && row.len() == formula.vars(),
