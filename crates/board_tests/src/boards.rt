@@ -230,7 +230,7 @@ pub(crate) fn begins_so(journal: &Journal, entries: &[(u32, u64, &str, [u32; 2])
 // Who plays on a board: two workers by turns; two of which the second answers by what is known; or three, whose turns are drawn
 // from a seed.
 #[derive(Drop)]
-pub(crate) enum Play<'a, 'p> {
+pub(crate) enum Players<'a, 'p> {
     ByTurns,
     ByKnown(&'a Known<'p>),
     Drawn(u64),
@@ -251,17 +251,17 @@ fn play<'v, 'p, L: Run>(
     rt: &impl Wait,
     alloc: Global,
     board: &mut Board<'v, 'p, L>,
-    who: Play<'_, 'p>,
+    who: Players<'_, 'p>,
 ) -> Result<([usize; 3], bool), AllocError>
     requires workers { 3 ≤ L.workers }
 {
     match who {
-        Play::ByTurns => Ok((two_turns(rt, alloc, board)?, true)),
-        Play::ByKnown(known) => {
+        Players::ByTurns => Ok((two_turns(rt, alloc, board)?, true)),
+        Players::ByKnown(known) => {
             known_turns(rt, alloc, board, known)?;
             Ok(([9; 3], true))
         }
-        Play::Drawn(seed) => Ok(([9; 3], drawn_turns(rt, alloc, board, seed)?)),
+        Players::Drawn(seed) => Ok(([9; 3], drawn_turns(rt, alloc, board, seed)?)),
     }
 }
 
@@ -272,7 +272,7 @@ fn play_from<'v, 'p, L: Run>(
     blank: Blank,
     versions: &'v Versions<'p>,
     first: Version<'p>,
-    who: Play<'_, 'p>,
+    who: Players<'_, 'p>,
 ) -> Result<BoardEnd<'p>, AllocError>
     requires name { (blank.name ≡ L.name) × (blank.parts ≡ L.parts) }
     requires parts { 2 ^ 62 ≤ L.parts }
@@ -299,7 +299,7 @@ pub(crate) fn played<'p>(
     alloc: Global,
     product: &'p Product,
     k: u32,
-    who: Play<'_, 'p>,
+    who: Players<'_, 'p>,
 ) -> Result<BoardEnd<'p>, AllocError>
     requires some { 0 < k }
     requires few { k ≤ 16 }
@@ -315,7 +315,7 @@ fn worked<'p>(
     alloc: Global,
     product: &'p Product,
 ) -> Result<BoardEnd<'p>, AllocError> {
-    played(rt, alloc, product, 1, Play::ByTurns)
+    played(rt, alloc, product, 1, Players::ByTurns)
 }
 
 #[test]
@@ -498,7 +498,7 @@ fn ends_at_greatest(
     greatest: &Classes,
     seed: u64,
 ) -> Result<bool, AllocError> {
-    let end = played(rt, alloc, product, 1, Play::Drawn(seed))?;
+    let end = played(rt, alloc, product, 1, Players::Drawn(seed))?;
     Ok(end.is_replayed && same_classes(end.version.classes(), greatest))
 }
 

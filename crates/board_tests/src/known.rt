@@ -1,7 +1,7 @@
 //! What is known from induction over fewer frames: its pairs stay counted while the classes split.
 ghost use Rattle.std.specs.Prelude.{◌≤◌, ◌+◌, ◌<◌};
 
-use crate::boards::{Play, Work, answer, ask, begins_so, played};
+use crate::boards::{Players, Work, answer, ask, begins_so, played};
 use crate::circuits::{STUCK, pair_of};
 use product_machine::Product;
 use refine_board::{Board, Run};
@@ -61,7 +61,7 @@ pub(crate) fn known_turns<'v, 'p, L: Run>(
 fn stays_counted(rt: &impl Wait, alloc: Global, product: &Product) -> Result<bool, AllocError> {
     let greatest = greatest_classes(alloc, product, 1)?;
     let known = Known::of(alloc, greatest.product(), greatest.k(), greatest.classes())?;
-    let end = played(rt, alloc, product, 2, Play::ByKnown(&known))?;
+    let end = played(rt, alloc, product, 2, Players::ByKnown(&known))?;
     let journal = &end.journal;
     let entries = [
         (0, 0, "offered", [0, 1]),
