@@ -25,6 +25,8 @@ pub struct SplitRows<'p> {
     pub(crate) product: &'p Product,
     pub(crate) k: u32,
     pub(crate) blocks: Vec<LaneRows<'p>>,
+    // by block, the lanes whose rows were answered for these classes: a hint
+    pub(crate) given: Vec<u64>,
     // what the blocks leave of the classes that are refined: a hint
     pub(crate) left: Option<Left>,
     pub(crate) stimulus: Stimulus,
@@ -46,20 +48,29 @@ impl<'p> Model for SplitRows<'p> {
     ghost invariant = { λ r. AreOf r.product.now r.k r.blocks.items };
 }
 
-// The row of a block that separates a needed pair, where one does.
+// A row that was found, with its block and its lane.
+#[derive(Drop)]
+struct FoundRow {
+    block: usize,
+    lane: u32,
+    row: BitRow,
+}
+
+// The row of a block that separates a needed pair, among those of some lanes, where one does; and its lane.
 fn row_apart(
     alloc: Global,
     block: &LaneRows<'_>,
+    among: u64,
     classes: &Classes,
     pair: Needed,
-) -> Result<Option<BitRow>, AllocError>
+) -> Result<Option<(u32, BitRow)>, AllocError>
     requires places { length classes.now.least ≡ places_of block.now.pair }
     requires place { pair.member < places_of block.now.pair }
     requires rep { pair.rep ≡ least_of classes.now pair.member }
-    ensures { IfOk result (λ row. IfSome row (IsRowApart block.now.pair block.now.k classes.now pair.member)) }
+    ensures { IfOk result (λ found. IfSome found (λ f. IsRowApart block.now.pair block.now.k classes.now pair.member f.1)) }
 {
-    match block.apart(classes, pair) {
-        Some(lane) => Ok(Some(block.row(alloc, lane)?)),
+    match block.apart(among, classes, pair) {
+        Some(lane) => Ok(Some((lane, block.row(alloc, lane)?))),
         None => Ok(None),
     }
 }
@@ -88,6 +99,7 @@ impl<'p> SplitRows<'p> {
             product,
             k,
             blocks: Vec::new(alloc),
+            given: Vec::new(alloc),
             left: None,
             stimulus: Stimulus::new(2),
             reached: Vec::new(alloc),
@@ -102,6 +114,7 @@ impl<'p> SplitRows<'p> {
     {
         let left = Left::of(alloc, classes)?;
         self.left = Some(left);
+        self.given.clear();
         let mut blocks = mem::replace(&mut self.blocks, Vec::new(alloc));
         while let Some(block) = blocks.pop() {
             self.take(alloc, block)?;
@@ -227,26 +240,95 @@ impl<'p> SplitRows<'p> {
         }
     }
 
-    /// A row that separates a needed pair of the classes, where one is held.
-    pub fn apart(
+    // The lanes of a block whose rows weren't answered for these classes.
+    fn new_lanes(&self, block: usize) -> u64 {
+        if block < self.given.len() {
+            !self.given[block]
+        } else {
+            !0
+        }
+    }
+
+    // Notes that the row of a block's lane was answered.
+    fn give(&mut self, block: usize, lane: u32) -> Result<(), AllocError>
+        ensures { self.new ≡ self.old }
+    {
+        if block >= self.given.len() {
+            self.given.resize(block.saturating_add(1), 0)?;
+        }
+        if block < self.given.len() {
+            self.given[block] = self.given[block] | lane_word(lane);
+        }
+        Ok(())
+    }
+
+    // A row that separates a needed pair, where one is held: of all, or of those alone that weren't answered for these classes.
+    fn find(
         &self,
         alloc: Global,
         classes: &Classes,
         pair: Needed,
-    ) -> Result<Option<BitRow>, AllocError>
+        of_all: bool,
+    ) -> Result<Option<FoundRow>, AllocError>
         requires places { length classes.now.least ≡ places_of self.now.pair }
         requires place { pair.member < places_of self.now.pair }
         requires rep { pair.rep ≡ least_of classes.now pair.member }
-        ensures { IfOk result (λ row. IfSome row (IsRowApart self.now.pair self.now.k classes.now pair.member)) }
+        ensures { IfOk result (λ found. IfSome found (λ f. IsRowApart self.now.pair self.now.k classes.now pair.member f.row)) }
+    {
+        for block in 0..self.blocks.len() {
+            let among = if of_all { !0 } else { self.new_lanes(block) };
+            if let Some((lane, row)) = row_apart(
+                alloc,
+                &self.blocks[block],
+                among,
+                classes,
+                pair,
+            )? {
+                return Ok(Some(FoundRow { block, lane, row }));
+            }
+        }
+        Ok(None)
+    }
+
+    // One of those that weren't answered for these classes, where there is one, and else of all.
+    fn find_best(
+        &self,
+        alloc: Global,
+        classes: &Classes,
+        pair: Needed,
+    ) -> Result<Option<FoundRow>, AllocError>
+        requires places { length classes.now.least ≡ places_of self.now.pair }
+        requires place { pair.member < places_of self.now.pair }
+        requires rep { pair.rep ≡ least_of classes.now pair.member }
+        ensures { IfOk result (λ found. IfSome found (λ f. IsRowApart self.now.pair self.now.k classes.now pair.member f.row)) }
+    {
+        if let Some(found) = self.find(alloc, classes, pair, false)? {
+            return Ok(Some(found));
+        }
+        self.find(alloc, classes, pair, true)
+    }
+
+    /// A row that separates a needed pair of the classes, where one is held: one that wasn't answered for these classes, where there is
+    /// such a row, since each splits them further.
+    pub fn apart(
+        &mut self,
+        alloc: Global,
+        classes: &Classes,
+        pair: Needed,
+    ) -> Result<Option<BitRow>, AllocError>
+        requires places { length classes.now.least ≡ places_of self.old.pair }
+        requires place { pair.member < places_of self.old.pair }
+        requires rep { pair.rep ≡ least_of classes.now pair.member }
+        ensures kept { self.new ≡ self.old }
+        ensures row { IfOk result (λ row. IfSome row (IsRowApart self.old.pair self.old.k classes.now pair.member)) }
     {
         if !self.is_apart(pair) {
             return Ok(None);
         }
-        for block in self.blocks.as_slice() {
-            if let Some(row) = row_apart(alloc, block, classes, pair)? {
-                return Ok(Some(row));
-            }
-        }
-        Ok(None)
+        let Some(FoundRow { block, lane, row }) = self.find_best(alloc, classes, pair)? else {
+            return Ok(None);
+        };
+        self.give(block, lane)?;
+        Ok(Some(row))
     }
 }

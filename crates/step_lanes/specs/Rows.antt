@@ -22,9 +22,9 @@ abbrev pub IsFirstLane : ℕ → Option ℕ → Type 0
 IsFirstLane lanes (Some b) = (b < 64) × IsTrue (lane_bit b lanes) × ((c : ℕ) → c < b → lane_bit c lanes ≡ false)
 IsFirstLane lanes None = (c : ℕ) → c < 64 → lane_bit c lanes ≡ false
 
--- the lowest lane of the mask in which a place and its class's least place differ, each with its phase; or none if they are equal in all
-abbrev pub IsFirstApart : MaskedRows → Classes → ℕ → Option ℕ → Type 0
-IsFirstApart r classes m (Some b) =
-    (b < 64) × IsTrue (lane_bit b r.mask) × Separates (lane b r.words) (needed classes m)
-    × ((c : ℕ) → c < b → IsTrue (lane_bit c r.mask) → HoldsIn (lane c r.words) (needed classes m))
-IsFirstApart r classes m None = (c : ℕ) → c < 64 → IsTrue (lane_bit c r.mask) → HoldsIn (lane c r.words) (needed classes m)
+-- the lowest lane of the mask, among some lanes, in which a place and its class's least place differ, each with its phase; or none if they are equal in all
+abbrev pub IsFirstApart : MaskedRows → ℕ → Classes → ℕ → Option ℕ → Type 0
+IsFirstApart r among classes m (Some b) =
+    (b < 64) × IsTrue (lane_bit b r.mask) × IsTrue (lane_bit b among) × Separates (lane b r.words) (needed classes m)
+    × ((c : ℕ) → c < b → IsTrue (lane_bit c r.mask) → IsTrue (lane_bit c among) → HoldsIn (lane c r.words) (needed classes m))
+IsFirstApart r among classes m None = (c : ℕ) → c < 64 → IsTrue (lane_bit c r.mask) → IsTrue (lane_bit c among) → HoldsIn (lane c r.words) (needed classes m)

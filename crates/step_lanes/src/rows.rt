@@ -116,19 +116,19 @@ impl<'p> LaneRows<'p> {
         self.mask = with_lane(self.mask, to, true);
     }
 
-    /// The lowest lane of the mask whose row separates a needed pair, or none if the pair holds in all of them. It takes a few
-    /// operations on words.
-    pub fn apart(&self, classes: &Classes, pair: Needed) -> Option<u32>
+    /// The lowest lane of the mask, among these lanes, whose row separates a needed pair, or none if the pair holds in all of them. It
+    /// takes a few operations on words.
+    pub fn apart(&self, among: u64, classes: &Classes, pair: Needed) -> Option<u32>
         requires places { length classes.now.least ≡ places_of self.now.pair }
         requires member { pair.member < places_of self.now.pair }
         requires rep { pair.rep ≡ least_of classes.now pair.member }
-        ensures { IsFirstApart self.now classes.now pair.member result }
+        ensures { IsFirstApart self.now among classes.now pair.member result }
     {
         let _places = classes.len();
         let words = self.words.as_slice();
         let least = phased_word(classes, words, pair.rep);
         let member = phased_word(classes, words, pair.member);
-        first_lane(apart_lanes(least, member, self.mask))
+        first_lane(apart_lanes(least, member, self.mask & among))
     }
 
     /// The row of a lane of the mask. It takes time linear in the number of places.

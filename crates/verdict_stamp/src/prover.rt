@@ -318,10 +318,11 @@ impl<'v, 'p> Prover<'v, 'p> {
     }
 
     // A vector of a row that is held, where one separates the pair.
-    fn held(&self, alloc: Global, pair: Needed) -> Result<Option<Vector<'p>>, AllocError>
-        requires place { pair.member < places_of self.now.pair }
-        requires rep { pair.rep ≡ least_of self.now.classes pair.member }
-        ensures { IfOk result (λ v. IfSome v (IsApart self.now pair.member)) }
+    fn held(&mut self, alloc: Global, pair: Needed) -> Result<Option<Vector<'p>>, AllocError>
+        requires place { pair.member < places_of self.old.pair }
+        requires rep { pair.rep ≡ least_of self.old.classes pair.member }
+        ensures kept { self.new ≡ self.old }
+        ensures vector { IfOk result (λ v. IfSome v (IsApart self.old pair.member)) }
     {
         let version = self.current;
         match self.rows.apart(alloc, version.classes(), pair)? {

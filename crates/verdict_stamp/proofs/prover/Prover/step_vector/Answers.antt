@@ -6,7 +6,7 @@ use Rattle.verdict_stamp.proofs.prover.Prover.step_vector.Goals as goal
 
 pub returns-in-Some-2-clause-some : goal.returns-in-Some-2-clause-some
 returns-in-Some-2-clause-some c =
-    apart_by c.passes_where.new.self c.args.self.now c.args.pair.member c.in_ok-vector.field-0 c.in-Some-2.vector (c.passes_where.ensures.kept ∙ c.self.view_is) c.in-Some-2.is c.in_ok-vector.ensures
+    apart_by c.passes_where.new.self c.args.self.now c.args.pair.member c.in_ok-vector.field-0 c.in-Some-2.vector (c.passes_where.ensures.kept ∙ c.self.view_is) c.in-Some-2.is c.in_ok-vector.ensures.vector
 
 pub vector_under-requires-clause-may : goal.vector_under-requires-clause-may
 vector_under-requires-clause-may c =
