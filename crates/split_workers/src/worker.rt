@@ -17,8 +17,9 @@ use std::sync::ledger::Ledger;
 use verdict_stamp::{Halt, Proof};
 use work_desk::{Asked, Caller, Seat, Separated};
 
-// So many vectors a worker holds at most. Each splits the classes for all, so one that holds many lets others prove pairs in vain.
-const MOST: u64 = 400;
+// So many vectors a worker holds at most. Each splits the classes for all, so one that holds many has itself and others prove pairs
+// in vain, and finds pairs apart by rows that it holds already.
+const MOST: u64 = 64;
 
 // How many vectors of so many places a worker holds at most: no more than a quarter of a gigabyte of them.
 fn most_of(places: u32) -> usize {
