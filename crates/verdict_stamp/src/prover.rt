@@ -325,10 +325,10 @@ impl<'v, 'p> Prover<'v, 'p> {
         ensures vector { IfOk result (λ v. IfSome v (IsApart self.old pair.member)) }
     {
         let version = self.current;
-        match self.rows.apart(alloc, version.classes(), pair)? {
-            Some(row) => Ok(Some(vector_under(version, row))),
-            None => Ok(None),
-        }
+        let Some(row) = self.rows.apart(alloc, version.classes(), pair)? else {
+            return Ok(None);
+        };
+        Ok(Some(vector_under(version, row)))
     }
 
     // A vector that has the pair apart in one of the first k frames of a run, or none: by the sweep, and else over whole frames.
