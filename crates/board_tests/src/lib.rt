@@ -9,6 +9,8 @@ mod circuits;
 #[cfg(test)]
 mod claims;
 #[cfg(test)]
+mod held_rows;
+#[cfg(test)]
 mod known;
 #[cfg(test)]
 mod proving;
