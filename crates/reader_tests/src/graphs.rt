@@ -16,8 +16,16 @@ enum Call {
 fn give(builder: &mut NetBuilder, call: &Call) -> Result<(), BuildFault> {
     match call {
         Call::Input(var) => builder.input(*var),
-        Call::Latch(var, next, reset) => builder.latch(*var, Lit::from_number(*next), Lit::from_number(*reset)),
-        Call::Gate(var, left, right) => builder.gate(*var, Lit::from_number(*left), Lit::from_number(*right)),
+        Call::Latch(var, next, reset) => builder.latch(
+            *var,
+            Lit::from_number(*next),
+            Lit::from_number(*reset),
+        ),
+        Call::Gate(var, left, right) => builder.gate(
+            *var,
+            Lit::from_number(*left),
+            Lit::from_number(*right),
+        ),
     }
 }
 
