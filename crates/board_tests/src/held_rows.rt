@@ -1,44 +1,72 @@
 //! Rows that simulation found: each is answered before one is answered again.
+ghost use Rattle.std.specs.Prelude.{◌≡◌, ◌<◌, length};
+ghost use Rattle.circ_model.specs.Meaning.{places_of};
+ghost use Rattle.class_partition.specs.Classes.{least_of};
+
 use crate::circuits::{LATCH_OF_PRODUCT, PRODUCT_OF_LATCHES, pair_of};
 use bit_rows::BitRow;
-use class_partition::Classes;
+use class_partition::{Classes, Needed};
 use product_machine::Product;
 use split_rows::SplitRows;
 use std::alloc::{AllocError, Global};
 use std::test::Fail;
 use verdict_stamp::Version;
 
-// Whether two rows have the same bits.
-fn are_same(a: &BitRow, b: &BitRow) -> bool {
-    a.len() == b.len() && (0..a.len()).all(|i| a.get(i) == b.get(i))
+// The bits of a row of fewer than 64 as a number.
+fn number_of(row: &BitRow) -> u64 {
+    let mut number = 0u64;
+    for i in 0..row.len() {
+        number = (number << 1) | row.get(i) as u64;
+    }
+    number
 }
 
-// Whether the first two rows that separate the first needed pair differ, and a later one is the first again.
-fn come_one_by_one(
+// The next row that separates a pair, as a number; 0 where none is held.
+fn next_number(
     alloc: Global,
-    product: &Product,
+    rows: &mut SplitRows<'_>,
     classes: &Classes,
-) -> Result<[bool; 2], AllocError> {
+    pair: Needed,
+) -> Result<u64, AllocError>
+    requires places { length classes.now.least ≡ places_of rows.old.pair }
+    requires place { pair.member < places_of rows.old.pair }
+    requires rep { pair.rep ≡ least_of classes.now pair.member }
+    ensures { rows.new ≡ rows.old }
+{
+    match rows.apart(alloc, classes, pair)? {
+        Some(row) => Ok(number_of(&row)),
+        None => Ok(0),
+    }
+}
+
+// The first two of them.
+fn two_numbers(
+    alloc: Global,
+    rows: &mut SplitRows<'_>,
+    classes: &Classes,
+    pair: Needed,
+) -> Result<[u64; 2], AllocError>
+    requires places { length classes.now.least ≡ places_of rows.old.pair }
+    requires place { pair.member < places_of rows.old.pair }
+    requires rep { pair.rep ≡ least_of classes.now pair.member }
+{
+    let first = next_number(alloc, rows, classes, pair)?;
+    let second = next_number(alloc, rows, classes, pair)?;
+    Ok([first, second])
+}
+
+// Those of the first needed pair, of rows that simulation from reset leaves.
+fn numbers_of(alloc: Global, product: &Product, classes: &Classes) -> Result<[u64; 2], AllocError> {
+    if classes.len() != product.len() {
+        return Ok([0; 2]);
+    }
+    let Some(pair) = classes.next_pair(0) else {
+        return Ok([0; 2]);
+    };
     let mut rows = SplitRows::new(alloc, product, 1);
     rows.turn_to(alloc, classes)?;
     rows.run_ahead(alloc)?;
-    let Some(pair) = classes.next_pair(0) else {
-        return Ok([false, false]);
-    };
-    if classes.len() != product.len() {
-        return Ok([false, false]);
-    }
-    let Some(first) = rows.apart(alloc, classes, pair)? else {
-        return Ok([false, false]);
-    };
-    let mut found = [false, false];
-    for turn in 0..64u32 {
-        if let Some(row) = rows.apart(alloc, classes, pair)? {
-            let is_first = are_same(&first, &row);
-            found = [found[0] || (turn == 0 && !is_first), found[1] || is_first];
-        }
-    }
-    Ok(found)
+    two_numbers(alloc, &mut rows, classes, pair)
 }
 
 #[test]
@@ -47,10 +75,9 @@ fn rows_are_answered_one_by_one(rt: HostRuntime) -> Result<(), Fail> {
     match pair_of(alloc, PRODUCT_OF_LATCHES, LATCH_OF_PRODUCT) {
         Ok(product) => {
             let version = Version::first(alloc, &product, 1)?;
-            assert_eq!(rt;
-                come_one_by_one(alloc, &product, version.classes())?,
-                [true, true]
-            );
+            let numbers = numbers_of(alloc, &product, version.classes())?;
+            assert!(rt; numbers[0] != 0 && numbers[1] != 0);
+            assert!(rt; numbers[0] != numbers[1]);
         }
         Err(_) => assert!(rt; false),
     }
