@@ -1,3 +1,4 @@
 pub mod Lanes
 pub mod Simulation
 pub mod Stimulus
+pub mod Wide
