@@ -3,3 +3,4 @@ pub mod Frames
 pub mod Counting
 pub mod Runs
 pub mod Words
+pub mod Stripes

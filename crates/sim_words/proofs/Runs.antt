@@ -72,7 +72,7 @@ start_is_run pair free state h = record {
   ties = start_ties pair free state h;
 }
 
-zeros_at : (n k : ℕ) → ◌≡◌ {A = ℕ} (get_or (replicate n 0) k 0) 0
+pub zeros_at : (n k : ℕ) → ◌≡◌ {A = ℕ} (get_or (replicate n 0) k 0) 0
 zeros_at zero k = refl
 zeros_at (suc n) zero = refl
 zeros_at (suc n) (suc k) = zeros_at n k

@@ -9,8 +9,8 @@ ghost use Rattle.sim_words.specs.Lanes.{lane, lane_bit};
 use circ_model::Lit;
 use product_machine::{Cell, Product};
 
-// All ones where a literal is complemented, else zeros.
-fn mask_of(lit: Lit) -> u64
+/// All ones where a literal is complemented, else zeros.
+pub(crate) fn mask_of(lit: Lit) -> u64
     ensures { (b : ℕ) → b < 64 → lane_bit b result ≡ is_odd lit }
 {
     if lit.complement() { !0 } else { 0 }
@@ -33,8 +33,8 @@ fn gate_word(words: &[u64], left: Lit, right: Lit) -> u64
     literal_word(words, left) & literal_word(words, right)
 }
 
-// Copies so many words from one list into another.
-fn copy_words(from: &[u64], at: usize, to: &mut [u64], start: usize, count: usize)
+/// Copies so many words from one list into another.
+pub(crate) fn copy_words(from: &[u64], at: usize, to: &mut [u64], start: usize, count: usize)
     requires source { at + count ≤ length from.now }
     requires target { start + count ≤ length to.old }
     ensures size { length to.new ≡ length to.old }

@@ -309,7 +309,7 @@ impl<'p> SplitRows<'p> {
     }
 
     /// A row that separates a needed pair of the classes, where one is held: one that wasn't answered for these classes, where there is
-    /// such a row, since each splits them further.
+    /// such a row, since the same row splits them once.
     pub fn apart(
         &mut self,
         alloc: Global,
