@@ -6,7 +6,7 @@ ghost use Rattle.pair_pool.specs.Solutions.{AreOutcomes};
 
 use crate::crew::{chairs, gather};
 use crate::slots::{Solved, slots_of, solve_all};
-use crate::worker::{Chair, Claimed, Done, Task, work};
+use crate::worker::{Chair, Claimed, Done, Pairs, work};
 use claim_word::ClaimWord;
 use product_machine::Product;
 use sec_base::Gate;
@@ -33,17 +33,17 @@ fn run_workers<R: Threads + Wait + Sync, G: Gate>(
     let (word, mut board) = ClaimWord::new(alloc, products.len() as u32)?;
     let crew = chairs(alloc, &word, &mut board, workers)?;
     let shared = &word;
-    let task = &Task { products, k };
+    let pairs = &Pairs { products, k };
     let told = thread::map_vec(
         rt,
         crew,
         &|chair: Chair| -> Done
             requires seat { chair.seat ≡ beside shared.now }
-            requires some { 0 < task.now.k }
-            requires few { task.now.k ≤ 16 }
+            requires some { 0 < pairs.now.k }
+            requires few { pairs.now.k ≤ 16 }
             ensures seated { IsSeated shared.entry.now result }
-            ensures found { HasFound task.entry.now.products.now task.entry.now.k result }
-        { work(rt, alloc, shared, task, gate, chair) },
+            ensures found { HasFound pairs.entry.now.products.now pairs.entry.now.k result }
+        { work(rt, alloc, shared, pairs, gate, chair) },
     )?;
     gather(alloc, &word, board, told)
 }

@@ -15,7 +15,7 @@ use std::thread::Threads;
 
 /// The pairs of a list, and over how many frames the induction goes.
 #[derive(Drop)]
-pub(crate) struct Task<'a> {
+pub(crate) struct Pairs<'a> {
     pub(crate) products: &'a [Product],
     pub(crate) k: u32,
 }
@@ -45,18 +45,18 @@ pub(crate) struct Done {
 fn settle<R: Threads + Wait + Sync>(
     rt: &R,
     alloc: Global,
-    task: &Task<'_>,
+    pairs: &Pairs<'_>,
     index: u32,
 ) -> Option<Outcome>
-    requires some { 0 < task.now.k }
-    requires few { task.now.k ≤ 16 }
-    ensures { IfSome result (IsOutcomeAt task.now.products.now task.now.k index) }
+    requires some { 0 < pairs.now.k }
+    requires few { pairs.now.k ≤ 16 }
+    ensures { IfSome result (IsOutcomeAt pairs.now.products.now pairs.now.k index) }
 {
     let at = index as usize;
-    if at >= task.products.len() {
+    if at >= pairs.products.len() {
         return None;
     }
-    match outcome_of(rt, alloc, &task.products[at], task.k) {
+    match outcome_of(rt, alloc, &pairs.products[at], pairs.k) {
         Ok(outcome) => Some(outcome),
         Err(_) => None,
     }
@@ -79,15 +79,15 @@ pub(crate) fn work<R: Threads + Wait + Sync, G: Gate>(
     rt: &R,
     alloc: Global,
     word: &ClaimWord,
-    task: &Task<'_>,
+    pairs: &Pairs<'_>,
     gate: &G,
     chair: Chair,
 ) -> Done
     requires seat { chair.seat ≡ beside word.now }
-    requires some { 0 < task.now.k }
-    requires few { task.now.k ≤ 16 }
+    requires some { 0 < pairs.now.k }
+    requires few { pairs.now.k ≤ 16 }
     ensures seated { IsSeated word.now result }
-    ensures found { HasFound task.now.products.now task.now.k result }
+    ensures found { HasFound pairs.now.products.now pairs.now.k result }
 {
     let Chair { worker, mut seat } = chair;
     let mut claimed = Vec::new(alloc);
@@ -98,7 +98,7 @@ pub(crate) fn work<R: Threads + Wait + Sync, G: Gate>(
         match claim(word, gate, worker, call, &mut seat) {
             Claim::Mine(_, index) => {
                 gate.works(worker, call);
-                let outcome = settle(rt, alloc, task, index);
+                let outcome = settle(rt, alloc, pairs, index);
                 let is_out = outcome.is_none();
                 claimed.push_reserved(Claimed { index, outcome });
                 if is_out {

@@ -1,5 +1,5 @@
 -- What is known before a pair is settled at a table, and what comes of it.
-use Rattle.std.specs.Prelude.{◌≡◌, ℕ, ◌≤◌}
+use Rattle.std.specs.Prelude.{◌≡◌, ℕ, Bool, ◌≤◌}
 use Rattle.circ_model.specs.Meaning.{Pair}
 use Rattle.boxcar.specs.Table.{Shelves, Shows}
 use Rattle.pair_sweep.specs.Sweeps.{Extent}
@@ -8,6 +8,11 @@ use Rattle.verdict_stamp.specs.Known.{Refined}
 use Rattle.verdict_stamp.specs.declared.prover.Proof.{Proof}
 use Rattle.verdict_stamp.specs.declared.prover.Proof.TheVariants.{Holds, Splits}
 use Rattle.refine_board.specs.Running.{IsAbout, IsOf, Owed}
+
+-- whether a table has a bench, and whether it has what was proved before
+pub record Laid : Type 0 where
+  pub bench : Bool
+  pub before : Bool
 
 -- the frames of a listed version of the run's pair and k
 abbrev pub IsBenchOf : Shelves → Pair → ℕ → Stamped → Type 0

@@ -18,7 +18,7 @@ const SEATS: usize = 64;
 
 /// The bench, where a pair was offered; until then what was proved before the run, where something was; and by worker the member of
 /// the offer that it is settling, from when a question about that is put aside until it is settled. Contracts see whether there is a
-/// bench.
+/// bench, and whether there is what was proved before.
 #[derive(Drop)]
 pub struct Table<'v, 'p, L: Run> {
     bench: Option<Bench<'v, 'p>>,
@@ -28,12 +28,12 @@ pub struct Table<'v, 'p, L: Run> {
 }
 
 impl<'v, 'p, L: Run> Model for Table<'v, 'p, L> {
-    ghost use Rattle.std.specs.Prelude.{Bool, IfSome, is_some};
-    ghost use Rattle.prover_table.specs.Tables.{IsBenchOf, IsMemoryFor};
+    ghost use Rattle.std.specs.Prelude.{IfSome, is_some};
+    ghost use Rattle.prover_table.specs.Tables.{IsBenchOf, IsMemoryFor, Laid};
 
-    ghost Value = { Bool };
+    ghost Value = { Laid };
 
-    ghost view = { λ t. is_some t.bench };
+    ghost view = { λ t. record { bench = is_some t.bench; before = is_some t.memory } };
 
     ghost invariant = { λ t. IfSome t.bench (IsBenchOf L.list L.pair L.k) × IfSome t.memory (IsMemoryFor L.pair L.k) };
 }
@@ -42,7 +42,7 @@ impl<'v, 'p, L: Run> Table<'v, 'p, L> {
     /// A table without a bench, from which nobody is away, with what was proved before where something was.
     pub fn new(memory: Option<ProverMemory<'p>>) -> Table<'v, 'p, L>
         requires { IfSome memory (IsMemoryFor L.pair L.k) }
-        ensures { result ≡ false }
+        ensures { result ≡ record { bench = false; before = is_some memory.entry } }
     {
         Table {
             bench: None,
@@ -55,7 +55,8 @@ impl<'v, 'p, L: Run> Table<'v, 'p, L> {
     /// What was proved at it, where there is a bench, and before, where something was.
     pub fn into_memory(self) -> Option<ProverMemory<'p>>
         ensures memory { IfSome result (IsMemoryFor L.pair L.k) }
-        ensures left { self.entry ≡ true → is_some result ≡ true }
+        ensures bench { self.entry.bench ≡ true → is_some result ≡ true }
+        ensures before { self.entry.before ≡ true → is_some result ≡ true }
     {
         let Table { bench, memory, .. } = self;
         memory_of::<L>(bench).or(memory)
@@ -73,7 +74,8 @@ impl<'v, 'p, L: Run> Table<'v, 'p, L> {
         ensures found { IfOk result (IsFoundFor L.pair L.k offer.now) }
         ensures most { asker.new.most ≡ asker.old.most }
         ensures halt { IfErr result (IsHalted asker.old asker.new) }
-        ensures bench { IfErr result (λ h. h ≡ Posed → self.new ≡ true) }
+        ensures bench { OnOk result (self.new.bench ≡ true) }
+        ensures aside { IfErr result (λ h. h ≡ Posed → self.new.bench ≡ true) }
     {
         self.note(offer.party(), None);
         let bench = self.bench.take();
@@ -96,7 +98,7 @@ impl<'v, 'p, L: Run> Table<'v, 'p, L> {
     /// Takes in the answer to the question that the asker had put aside, where there is a bench, as there is once one is put aside.
     pub fn take_answer(&mut self, alloc: Global, asker: &mut Asker) -> Result<(), AllocError>
         ensures kept { self.new ≡ self.old }
-        ensures taken { OnOk result (self.old ≡ true → IsTaken asker.old asker.new) }
+        ensures taken { OnOk result (self.old.bench ≡ true → IsTaken asker.old asker.new) }
     {
         match &mut self.bench {
             Some(bench) => bench.take_answer(alloc, asker),
