@@ -9,7 +9,7 @@ ghost use Rattle.frame_unroll.specs.Unrolled.{asks};
 use crate::found::Prepared;
 use circ_model::Lit;
 use cnf_store::Cnf;
-use frame_unroll::{Question, Unrolled};
+use frame_unroll::{Outline, Question};
 use product_machine::Path;
 use sat_core::{Answer, Workspace};
 use std::alloc::{AllocError, Global};
@@ -17,7 +17,7 @@ use std::alloc::{AllocError, Global};
 // That a literal is true in a frame.
 fn add_assumption(
     cnf: &mut Cnf,
-    frames: &Unrolled<'_>,
+    frames: &Outline<'_>,
     frame: u32,
     lit: Lit,
 ) -> Result<(), AllocError>
@@ -33,7 +33,7 @@ fn add_assumption(
 // That all of these are.
 fn add_assumed(
     cnf: &mut Cnf,
-    frames: &Unrolled<'_>,
+    frames: &Outline<'_>,
     assumed: &[(u32, Lit)],
 ) -> Result<(), AllocError>
     requires assumed { All (IsAssumable frames.now) assumed.now }

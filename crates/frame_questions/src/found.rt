@@ -11,7 +11,7 @@ ghost use Rattle.frame_unroll.specs.Unrolled.{AreFramesOf, after_classes, asking
 use bit_rows::BitRow;
 use circ_model::Lit;
 use class_partition::Classes;
-use frame_unroll::{Question, Unrolled};
+use frame_unroll::{Outline, Question, Unrolled};
 use product_machine::{Path, Product};
 use sat_core::{Answer, Ready, Workspace};
 use sat_log::Log;
@@ -38,10 +38,10 @@ pub enum Separation {
     Path(Seen),
 }
 
-/// Frames without a question, made ready for the solver once for many.
+/// Frames without a question, made ready for the solver once for many: their clauses stand in its codes alone.
 #[derive(Drop)]
 pub struct Prepared<'p> {
-    pub(crate) frames: Unrolled<'p>,
+    pub(crate) frames: Outline<'p>,
     pub(crate) ready: Ready,
 }
 
@@ -63,6 +63,7 @@ impl<'p> Prepared<'p> {
         ensures { IfOk result (λ p. p ≡ frames.entry) }
     {
         let ready = Ready::new(alloc, frames.cnf())?;
+        let frames = frames.into_outline();
         Ok(Prepared { frames, ready })
     }
 

@@ -1,24 +1,7 @@
-use Rattle.circ_model.specs.Meaning.{places_of, Path as Steps}
-use Rattle.frame_unroll.specs.Frames.{values}
-use Rattle.std.proofs.Common.{subst}
-use Rattle.std.proofs.lemmas.Result.{IfOk-weaker}
-use Rattle.std.specs.Result.{IfOk}
-use Rattle.frame_unroll.specs.Unrolled.{Unrolling}
-use Rattle.product_machine.specs.Cells.{ReadsFrom}
-use Rattle.frame_unroll.specs.Ready.{IsReady}
-use Rattle.frame_unroll.proofs.Standing.{is_sought}
+use Rattle.std.proofs.Common.{◌≡◌, true, subst, sym}
+use Rattle.cnf_store.specs.Clauses.{satisfies}
+use Rattle.frame_unroll.specs.Unrolled.{Unrolling, clauses_of}
 use Rattle.frame_unroll.proofs.unrolled.Unrolled.path_of.Goals as goal
 
-pub returns-clause-sought : goal.returns-clause-sought
-returns-clause-sought c =
-    let u = c.args.self.now in
-    let ready : IsReady u c.self.inside.cnf c.self.inside.plain = subst (λ (v : Unrolling). IsReady v c.self.inside.cnf c.self.inside.plain) c.self.view_is c.self.invariant in
-    let read = subst (λ (v : Unrolling). IfOk c.read_path.result (λ (path : Steps). ReadsFrom v.pair v.frames (values c.args.row.now (places_of v.pair)) path)) c.self.view_is c.read_path.ensures in
-    IfOk-weaker c.read_path.result _ _ (λ path h. (is_sought u c.self.inside.cnf c.self.inside.plain c.args.row.now path ready c.requires.satisfied h).0) read
-
-pub returns-clause-shown : goal.returns-clause-shown
-returns-clause-shown c =
-    let u = c.args.self.now in
-    let ready : IsReady u c.self.inside.cnf c.self.inside.plain = subst (λ (v : Unrolling). IsReady v c.self.inside.cnf c.self.inside.plain) c.self.view_is c.self.invariant in
-    let read = subst (λ (v : Unrolling). IfOk c.read_path.result (λ (path : Steps). ReadsFrom v.pair v.frames (values c.args.row.now (places_of v.pair)) path)) c.self.view_is c.read_path.ensures in
-    IfOk-weaker c.read_path.result _ _ (λ path h. (is_sought u c.self.inside.cnf c.self.inside.plain c.args.row.now path ready c.requires.satisfied h).1) read
+pub path_of-requires-clause-satisfied : goal.path_of-requires-clause-satisfied
+path_of-requires-clause-satisfied c = subst (λ (u : Unrolling). satisfies c.args.row.now (clauses_of u) ≡ true) (sym c.self.view_is) c.requires.satisfied

@@ -4,7 +4,7 @@ use Rattle.circ_model.specs.Meaning.{places_of}
 use Rattle.cnf_store.specs.Clauses.{IsLiteral}
 use Rattle.frame_unroll.specs.Unrolled.{Unrolling}
 use Rattle.frame_unroll.proofs.Standing.{frame_fits}
-use Rattle.frame_unroll.proofs.unrolled.Unrolled.literal.Goals as goal
+use Rattle.frame_unroll.proofs.outline.Outline.literal.Goals as goal
 
 pub returns-clause-is : goal.returns-clause-is
 returns-clause-is c =
