@@ -1,4 +1,4 @@
-//! Simulation of 64 runs at once.
+//! Simulation of 64 runs at once, and of 512.
 ghost use Rattle.std.specs.Prelude.{◌≡◌, ◌<◌, Some, length};
 ghost use Rattle.sim_words.specs.Simulation.{HasFrame, HasNext, next_frame};
 
@@ -6,7 +6,7 @@ use crate::circuits::{TOGGLE_FROM_EITHER, TOGGLE_FROM_ONE, pair_of};
 use crate::rows::has_bits;
 use bit_rows::BitRow;
 use product_machine::Product;
-use sim_words::{SimState, Stimulus};
+use sim_words::{SimState, Stimulus, WideState};
 use std::alloc::{AllocError, Global};
 use std::test::Fail;
 
@@ -55,6 +55,48 @@ fn toggles_from(alloc: Global, product: &Product, start: u64) -> Result<bool, Al
 fn toggling_latches_start_where_their_lanes_say(rt: HostRuntime) -> Result<(), Fail> {
     match pair_of(rt.alloc(), TOGGLE_FROM_EITHER, TOGGLE_FROM_ONE) {
         Ok(product) => assert!(rt; toggles_from(rt.alloc(), &product, 0x00ff_0000_1234_5678)?),
+        Err(_) => assert!(rt; false),
+    }
+    Ok(())
+}
+
+// The words j that two toggling latches of which the left one is free have in frame 1, where they start with eight.
+fn wide_words(
+    alloc: Global,
+    product: &Product,
+    start: &[u64; 8],
+    j: u32,
+) -> Result<Vec<u64>, AllocError>
+    requires { j < 8 }
+{
+    let mut words = vec![in alloc; 7u64; product.len() as usize]?;
+    let mut sim = WideState::new(alloc, product)?;
+    if sim.free_latches() == 1 && product.inputs() == 0 {
+        sim.reset(start);
+        sim.step(&[]);
+        sim.step(&[]);
+        sim.write_words(j, words.as_mut_slice());
+    }
+    drop(sim);
+    Ok(words)
+}
+
+// Whether each of the eight is a simulation of 64 runs.
+fn wide_toggles(alloc: Global, product: &Product, start: &[u64; 8]) -> Result<bool, AllocError> {
+    for j in 0..8u32 {
+        let words = wide_words(alloc, product, start, j)?;
+        if words.as_slice() != [0, !start[j as usize], 0].as_slice() {
+            return Ok(false);
+        }
+    }
+    Ok(true)
+}
+
+#[test]
+fn each_of_eight_words_has_runs_of_its_own(rt: HostRuntime) -> Result<(), Fail> {
+    let start = [0, !0, 1, 2, 0x00ff_0000_1234_5678, 5, 1 << 63, 7];
+    match pair_of(rt.alloc(), TOGGLE_FROM_EITHER, TOGGLE_FROM_ONE) {
+        Ok(product) => assert!(rt; wide_toggles(rt.alloc(), &product, &start)?),
         Err(_) => assert!(rt; false),
     }
     Ok(())
