@@ -9,7 +9,7 @@ use Rattle.split_workers.specs.declared.earlier.Earlier.{Earlier}
 use Rattle.prover_table.specs.Tables.{IsKnownFor, IsMemoryFor}
 use Rattle.work_desk.specs.Desks.{IsOutcome}
 
--- the version that simulation leaves: its classes and number are those of 16 frames of 64 runs
+-- the version that simulation leaves: its classes and number are those of 16 frames of 512 runs
 pub record IsOpening (pair : Pair) (k : ℕ) (first : Standing) : Type 0 where
   pub version : IsVersion first
   pub pair_is : first.pair ≡ pair

@@ -14,15 +14,15 @@ use Rattle.circ_model.specs.Runs.{phases, quiet_run}
 use Rattle.circ_model.proofs.Paths.{state_start, state_next}
 use Rattle.circ_model.proofs.Rows.{length_row}
 use Rattle.class_partition.specs.Classes.{Classes, ArePartition, class_count, one_class, relative}
-use Rattle.class_partition.specs.Words.{rows_of, splits_of}
 use Rattle.class_partition.proofs.Finer.{AreFiner, still_together, two_apart}
-use Rattle.class_partition.proofs.WordRows.{AreSplitByRows, HaveEqualBits}
 use Rattle.sim_words.specs.Lanes.{lane}
-use Rattle.sim_words.specs.Simulation.{Simulation, IsStart, free_count, next_frame}
+use Rattle.sim_words.specs.Simulation.{IsStart, free_count, next_frame}
 use Rattle.sim_words.specs.Stimulus.{after_words}
+use Rattle.sim_words.specs.Wide.{WideSimulation, narrow, stripe}
 use Rattle.verdict_stamp.specs.Versions.{Standing, first_version}
-use Rattle.verdict_stamp.specs.Opening.{seeded, free_words, input_words, start_in, opening_run, phased_bit, EqualIn, EqualBelow, AreOpened, AddsClasses, AreFramesThatAdd}
-use Rattle.verdict_stamp.proofs.SimSplitting.{lanes_are}
+use Rattle.verdict_stamp.specs.WideSplits.{wide_splits}
+use Rattle.verdict_stamp.specs.Opening.{seeded, free_words, input_words, start_in, inputs_in, opening_run, phased_bit, EqualIn, EqualBelow, AreOpened, AddsClasses, AreFramesThatAdd}
+use Rattle.verdict_stamp.proofs.WideSplitting.{AreSplitByParts, HaveEqualParts, parts_are}
 
 -- the words after m and then n words
 pub after_both : (m n : ℕ) (g : Lcg) → after_words n (after_words m g) ≡ after_words (m + n) g
@@ -31,27 +31,27 @@ after_both zero n g = let e : n ≡ 0 + n = omega arith in ap (λ (k : ℕ). aft
 after_both (suc m) n g = after_both m n (pcg64 g).1 ∙ (let e : suc (m + n) ≡ suc m + n = omega arith in ap (λ (k : ℕ). after_words k g) e)
 
 -- the run starts with the bits of the free words, and has the bits of each frame's words
-starts : (pair : Pair) (b : ℕ) → state_at pair (opening_run pair b) 0 ≡ map (start_in pair b) (range_with_len 0 (latches_of pair))
+starts : (pair : Pair) (j b : ℕ) → state_at pair (opening_run pair j b) 0 ≡ map (start_in pair j b) (range_with_len 0 (latches_of pair))
 unfolding opening_run
-starts pair b = state_start pair (opening_run pair b)
+starts pair j b = state_start pair (opening_run pair j b)
 
-pub start_is : (pair : Pair) (b : ℕ) (state : List Bool) → IsStart pair (lane b (free_words pair)) state → state ≡ state_at pair (opening_run pair b) 0
-start_is pair b state is =
-    ext_get_or false state (map (start_in pair b) (range_with_len 0 (latches_of pair))) (is.size ∙ sym (length-map-range_with_len (start_in pair b) 0 (latches_of pair)))
-    (λ i lt. let short : i < latches_of pair = let n = is.size in omega arith in is.bits i short ∙ sym (get_or-map-range_with_len (start_in pair b) 0 (latches_of pair) i i false short (omega arith)))
-    ∙ sym (starts pair b)
+pub start_is : (pair : Pair) (j b : ℕ) (state : List Bool) → IsStart pair (lane b (stripe (free_count pair) j (free_words pair))) state → state ≡ state_at pair (opening_run pair j b) 0
+start_is pair j b state is =
+    ext_get_or false state (map (start_in pair j b) (range_with_len 0 (latches_of pair))) (is.size ∙ sym (length-map-range_with_len (start_in pair j b) 0 (latches_of pair)))
+    (λ i lt. let short : i < latches_of pair = let n = is.size in omega arith in is.bits i short ∙ sym (get_or-map-range_with_len (start_in pair j b) 0 (latches_of pair) i i false short (omega arith)))
+    ∙ sym (starts pair j b)
 
-inputs_are : (pair : Pair) (b t : ℕ) → t < 16 → inputs_at (opening_run pair b) t ≡ lane b (input_words pair t)
+inputs_are : (pair : Pair) (j b t : ℕ) → t < 16 → inputs_at (opening_run pair j b) t ≡ inputs_in pair j b t
 unfolding opening_run
-inputs_are pair b t lt = get_or-map-range_with_len (λ t. lane b (input_words pair t)) 0 16 t t [] lt (omega arith)
+inputs_are pair j b t lt = get_or-map-range_with_len (inputs_in pair j b) 0 16 t t [] lt (omega arith)
 
 -- a frame with the run's state and inputs is that of the run
-pub row_is : (pair : Pair) (b t : ℕ) (state inputs : List Bool) → t < 16 → state ≡ state_at pair (opening_run pair b) t → inputs ≡ lane b (input_words pair t) → row pair state inputs ≡ row_at pair (opening_run pair b) t
-row_is pair b t state inputs lt s i = ap₂ (row pair) s (i ∙ sym (inputs_are pair b t lt))
+pub row_is : (pair : Pair) (j b t : ℕ) (state inputs : List Bool) → t < 16 → state ≡ state_at pair (opening_run pair j b) t → inputs ≡ inputs_in pair j b t → row pair state inputs ≡ row_at pair (opening_run pair j b) t
+row_is pair j b t state inputs lt s i = ap₂ (row pair) s (i ∙ sym (inputs_are pair j b t lt))
 
-pub next_is : (pair : Pair) (b t : ℕ) (state inputs : List Bool) → t < 16 → state ≡ state_at pair (opening_run pair b) t → inputs ≡ lane b (input_words pair t) → next_state pair state inputs ≡ state_at pair (opening_run pair b) (t + 1)
-next_is pair b t state inputs lt s i =
-    ap₂ (next_state pair) s (i ∙ sym (inputs_are pair b t lt)) ∙ sym (state_next pair (opening_run pair b) t) ∙ ap (state_at pair (opening_run pair b)) (let e : suc t ≡ t + 1 = omega arith in e)
+pub next_is : (pair : Pair) (j b t : ℕ) (state inputs : List Bool) → t < 16 → state ≡ state_at pair (opening_run pair j b) t → inputs ≡ inputs_in pair j b t → next_state pair state inputs ≡ state_at pair (opening_run pair j b) (t + 1)
+next_is pair j b t state inputs lt s i =
+    ap₂ (next_state pair) s (i ∙ sym (inputs_are pair j b t lt)) ∙ sym (state_next pair (opening_run pair j b) t) ∙ ap (state_at pair (opening_run pair j b)) (let e : suc t ≡ t + 1 = omega arith in e)
 
 -- before frame 0 all places are together
 all_zero : (n p : ℕ) → slice_index (replicate n 0) p ≡ 0
@@ -79,39 +79,35 @@ opened_none pair = record {
 frames_none : (pair : Pair) → AreFramesThatAdd pair 0 0
 frames_none pair = ([], refl, λ t lt. absurd (omega arith), refl)
 
--- equal bits in the lanes of a frame's words
-equal_in : (pair : Pair) (t : ℕ) (before : Classes) (words : List ℕ) (p q : ℕ) → before.phase ≡ phases pair → ((b : ℕ) → b < 64 → lane b words ≡ row_at pair (opening_run pair b) t)
-    → HaveEqualBits (λ b. lane b words) 0 64 before p q → EqualIn pair t p q
-equal_in pair t before words p q phase lanes h b lt = sym (at p) ∙ h b (omega arith) lt ∙ at q
-  where
-    at : (x : ℕ) → relative before (lane b words) x ≡ phased_bit pair b t x
-    at x = ap₂ (λ (f r : List Bool). signed (bit f x) (bit r x)) phase (lanes b lt)
+-- a frame's words are those of the runs
+abbrev pub AreRows : Pair → ℕ → List ℕ → Type 0
+AreRows pair t words = (j b : ℕ) → j < 8 → b < 64 → lane b (stripe (places_of pair) j words) ≡ row_at pair (opening_run pair j b) t
 
-equal_bits : (pair : Pair) (t : ℕ) (before : Classes) (words : List ℕ) (p q : ℕ) → before.phase ≡ phases pair → ((b : ℕ) → b < 64 → lane b words ≡ row_at pair (opening_run pair b) t)
-    → EqualIn pair t p q → HaveEqualBits (λ b. lane b words) 0 64 before p q
-equal_bits pair t before words p q phase lanes h b low less = at p ∙ h b lt ∙ sym (at q)
-  where
-    lt : b < 64
-    lt = omega arith
+phased_is : (pair : Pair) (t : ℕ) (before : Classes) (words : List ℕ) (j b x : ℕ) → before.phase ≡ phases pair → lane b (stripe (places_of pair) j words) ≡ row_at pair (opening_run pair j b) t
+    → relative before (lane b (stripe (places_of pair) j words)) x ≡ phased_bit pair j b t x
+phased_is pair t before words j b x phase e = ap₂ (λ (f r : List Bool). signed (bit f x) (bit r x)) phase e
 
-    at : (x : ℕ) → relative before (lane b words) x ≡ phased_bit pair b t x
-    at x = ap₂ (λ (f r : List Bool). signed (bit f x) (bit r x)) phase (lanes b lt)
+-- equal bits in them
+equal_in : (pair : Pair) (t : ℕ) (before : Classes) (words : List ℕ) (p q : ℕ) → before.phase ≡ phases pair → AreRows pair t words → HaveEqualParts (places_of pair) 8 words before p q → EqualIn pair t p q
+equal_in pair t before words p q phase rows h j b lt less = sym (phased_is pair t before words j b p phase (rows j b lt less)) ∙ h j b lt less ∙ phased_is pair t before words j b q phase (rows j b lt less)
+
+equal_bits : (pair : Pair) (t : ℕ) (before : Classes) (words : List ℕ) (p q : ℕ) → before.phase ≡ phases pair → AreRows pair t words → EqualIn pair t p q → HaveEqualParts (places_of pair) 8 words before p q
+equal_bits pair t before words p q phase rows h j b lt less = phased_is pair t before words j b p phase (rows j b lt less) ∙ h j b lt less ∙ sym (phased_is pair t before words j b q phase (rows j b lt less))
 
 below_more : (pair : Pair) (t p q : ℕ) → EqualBelow pair t p q → EqualIn pair t p q → EqualBelow pair (t + 1) p q
 below_more pair t p q below here s lt = ⊎_elim (λ (less : s < t). below s less) (λ (ge : t ≤ s). let e : s ≡ t = omega arith in subst (λ (x : ℕ). EqualIn pair x p q) (sym e) here) (cases_lt s t)
 
-pub opened_more : (pair : Pair) (t : ℕ) (before : Classes) (words : List ℕ) (after : Classes) → AreOpened pair t before → ((b : ℕ) → b < 64 → lane b words ≡ row_at pair (opening_run pair b) t)
-    → after ≡ splits_of (places_of pair) before (rows_of words) → AreOpened pair (t + 1) after
-opened_more pair t before words after is lanes rows =
-    let split = subst (AreSplitByRows (λ b. lane b words) 0 64 (places_of pair) before) (sym rows) (lanes_are (places_of pair) before words is.partition) in
+pub opened_more : (pair : Pair) (t : ℕ) (before : Classes) (words : List ℕ) (after : Classes) → AreOpened pair t before → AreRows pair t words → after ≡ wide_splits 8 (places_of pair) before words → AreOpened pair (t + 1) after
+opened_more pair t before words after is rows e =
+    let split = subst (AreSplitByParts 8 (places_of pair) before words) (sym e) (parts_are 8 (places_of pair) before words is.partition) in
     record {
       partition = split.partition;
       phase = split.phase ∙ is.phase;
       together = λ p q lp lq. (
         λ h.
             let parts = (split.together p q lp lq).0 h in
-            below_more pair t p q ((is.together p q lp lq).0 parts.0) (equal_in pair t before words p q is.phase lanes parts.1),
-        λ h. (split.together p q lp lq).1 ((is.together p q lp lq).1 (λ s lt. h s (omega arith)), equal_bits pair t before words p q is.phase lanes (h t (omega arith))),
+            below_more pair t p q ((is.together p q lp lq).0 parts.0) (equal_in pair t before words p q is.phase rows parts.1),
+        λ h. (split.together p q lp lq).1 ((is.together p q lp lq).1 (λ s lt. h s (omega arith)), equal_bits pair t before words p q is.phase rows (h t (omega arith))),
       );
     }
 
@@ -158,14 +154,14 @@ frames_more pair t before after (suc added) number next is now count some none f
     subst (AreFramesThatAdd pair (t + 1)) (sym (some (omega arith))) (push pair t number true frames (adds_some pair t before after is now (omega arith)))
 
 -- what holds before frame t
-pub record IsBefore (pair : Pair) (k t : ℕ) (version : Standing) (sim : Simulation) (stimulus : Lcg) (inputs : List ℕ) : Type 0 where
+pub record IsBefore (pair : Pair) (k t : ℕ) (version : Standing) (sim : WideSimulation) (stimulus : Lcg) (inputs : List ℕ) : Type 0 where
   pub of_pair : version.pair ≡ pair
   pub of_k : version.k ≡ k
   pub sim_of : sim.pair ≡ pair
   pub frame : next_frame sim.frame ≡ t
-  pub size : length inputs ≡ length pair.left.inputs
-  pub states : (b : ℕ) → b < 64 → lane b sim.state ≡ state_at pair (opening_run pair b) t
-  pub words : stimulus ≡ after_words (free_count pair + t * length pair.left.inputs) seeded
+  pub size : length inputs ≡ 8 * length pair.left.inputs
+  pub states : (j b : ℕ) → j < 8 → b < 64 → lane b (narrow sim j).state ≡ state_at pair (opening_run pair j b) t
+  pub words : stimulus ≡ after_words (8 * free_count pair + t * (8 * length pair.left.inputs)) seeded
   pub opened : AreOpened pair t version.classes
   pub frames : AreFramesThatAdd pair t version.number
 
@@ -173,20 +169,23 @@ seeded_is : pcg64_of_seed (pcg32_seed 32 1) ≡ seeded
 unfolding seeded
 seeded_is = refl
 
-pub begins : (pair : Pair) (k : ℕ) (version : Standing) (start sim : Simulation) (source stimulus : Lcg) (given free inputs : List ℕ) → version ≡ first_version pair k → start.pair ≡ pair → sim.pair ≡ start.pair → sim.frame ≡ None
-    → source ≡ pcg64_of_seed (pcg32_seed 32 1) → length given ≡ free_count pair → free ≡ first_words pcg64 (length given) source → stimulus ≡ after_words (length given) source
-    → ((b : ℕ) → b < 64 → IsStart start.pair (lane b free) (lane b sim.state)) → length inputs ≡ length pair.left.inputs → IsBefore pair k 0 version sim stimulus inputs
+pub begins : (pair : Pair) (k : ℕ) (version : Standing) (start sim : WideSimulation) (source stimulus : Lcg) (given free inputs : List ℕ) → version ≡ first_version pair k → start.pair ≡ pair → sim.pair ≡ start.pair → sim.frame ≡ None
+    → source ≡ pcg64_of_seed (pcg32_seed 32 1) → length given ≡ 8 * free_count pair → free ≡ first_words pcg64 (length given) source → stimulus ≡ after_words (length given) source
+    → ((j b : ℕ) → j < 8 → b < 64 → IsStart start.pair (lane b (stripe (free_count start.pair) j free)) (lane b (narrow sim j).state)) → length inputs ≡ 8 * length pair.left.inputs → IsBefore pair k 0 version sim stimulus inputs
 begins pair k version start sim source stimulus given free inputs first of_pair stays none seed count words after starts size =
     let from : source ≡ seeded = seed ∙ seeded_is in
     let free_is : free ≡ free_words pair = words ∙ ap₂ (first_words pcg64) count from in
+    let zero_more : 8 * free_count pair ≡ 8 * free_count pair + 0 * (8 * length pair.left.inputs) = omega arith in
     record {
       of_pair = ap (λ (v : Standing). v.pair) first;
       of_k = ap (λ (v : Standing). v.k) first;
       sim_of = stays ∙ of_pair;
       frame = ap next_frame none;
       size = size;
-      states = λ b lt. start_is pair b (lane b sim.state) (subst (λ (ws : List ℕ). IsStart pair (lane b ws) (lane b sim.state)) free_is (subst (λ (p : Pair). IsStart p (lane b free) (lane b sim.state)) of_pair (starts b lt)));
-      words = after ∙ ap₂ after_words (count ∙ omega arith) from;
+      states = λ j b lt less.
+          let state : List Bool = lane b (narrow sim j).state in
+          start_is pair j b state (subst (λ (ws : List ℕ). IsStart pair (lane b (stripe (free_count pair) j ws)) state) free_is (subst (λ (p : Pair). IsStart p (lane b (stripe (free_count p) j free)) state) of_pair (starts j b lt less)));
+      words = after ∙ ap₂ after_words (count ∙ zero_more) from;
       opened = subst (λ (v : Standing). AreOpened pair 0 v.classes) (sym first) (opened_none pair);
       frames = subst (λ (v : Standing). AreFramesThatAdd pair 0 v.number) (sym first) (frames_none pair);
     }
@@ -194,26 +193,33 @@ begins pair k version start sim source stimulus given free inputs first of_pair 
 more_words : (f t n : ℕ) → (f + t * n) + n ≡ f + (t + 1) * n
 more_words f t n = grind arith
 
-pub goes_on : (pair : Pair) (k t : ℕ) (version next : Standing) (sim stepped : Simulation) (stimulus after : Lcg) (inputs given next_inputs : List ℕ) (added : ℕ) → t < 16 → IsBefore pair k t version sim stimulus inputs
+pub goes_on : (pair : Pair) (k t : ℕ) (version next : Standing) (sim stepped : WideSimulation) (stimulus after : Lcg) (inputs given next_inputs : List ℕ) (added : ℕ) → t < 16 → IsBefore pair k t version sim stimulus inputs
     → given ≡ first_words pcg64 (length inputs) stimulus → after ≡ after_words (length inputs) stimulus → next_inputs ≡ given → length given ≡ length inputs → stepped.pair ≡ sim.pair → stepped.frame ≡ Some (next_frame sim.frame)
-    → ((b : ℕ) → b < 64 → lane b stepped.words ≡ row sim.pair (lane b sim.state) (lane b given)) → ((b : ℕ) → b < 64 → lane b stepped.state ≡ next_state sim.pair (lane b sim.state) (lane b given))
-    → next.pair ≡ version.pair → next.k ≡ version.k → next.classes ≡ splits_of (places_of version.pair) version.classes (rows_of stepped.words)
+    → ((j b : ℕ) → j < 8 → b < 64 → lane b (narrow stepped j).words ≡ row sim.pair (lane b (narrow sim j).state) (lane b (stripe (length sim.pair.left.inputs) j given)))
+    → ((j b : ℕ) → j < 8 → b < 64 → lane b (narrow stepped j).state ≡ next_state sim.pair (lane b (narrow sim j).state) (lane b (stripe (length sim.pair.left.inputs) j given)))
+    → next.pair ≡ version.pair → next.k ≡ version.k → next.classes ≡ wide_splits 8 (places_of version.pair) version.classes stepped.words
     → class_count (places_of version.pair) next.classes ≡ class_count (places_of version.pair) version.classes + added → (0 < added → next.number ≡ version.number + 1) → (added ≡ 0 → next ≡ version)
     → IsBefore pair k (t + 1) next stepped after next_inputs
 goes_on pair k t version next sim stepped stimulus after inputs given next_inputs added lt is words more_after same len of_sim frame rows states of_pair of_k split count some none =
     let given_is : given ≡ input_words pair t = words ∙ ap₂ (first_words pcg64) is.size is.words in
-    let lanes : (b : ℕ) → b < 64 → lane b stepped.words ≡ row_at pair (opening_run pair b) t =
-    λ b less. rows b less ∙ ap (λ (p : Pair). row p (lane b sim.state) (lane b given)) is.sim_of ∙ row_is pair b t (lane b sim.state) (lane b given) lt (is.states b less) (ap (lane b) given_is) in
-    let opened : AreOpened pair (t + 1) next.classes = opened_more pair t version.classes stepped.words next.classes is.opened lanes (subst (λ (p : Pair). next.classes ≡ splits_of (places_of p) version.classes (rows_of stepped.words)) is.of_pair split) in
+    let part_is : (j b : ℕ) → lane b (stripe (length sim.pair.left.inputs) j given) ≡ inputs_in pair j b t = λ j b. ap₂ (λ (p : Pair) (ws : List ℕ). lane b (stripe (length p.left.inputs) j ws)) is.sim_of given_is in
+    let stepped_of : places_of stepped.pair ≡ places_of pair = ap places_of (of_sim ∙ is.sim_of) in
+    let lanes : AreRows pair t stepped.words =
+    λ j b low less.
+    ap (λ (n : ℕ). lane b (stripe n j stepped.words)) (sym stepped_of) ∙ rows j b low less ∙ ap (λ (p : Pair). row p (lane b (narrow sim j).state) (lane b (stripe (length sim.pair.left.inputs) j given))) is.sim_of
+    ∙ row_is pair j b t (lane b (narrow sim j).state) (lane b (stripe (length sim.pair.left.inputs) j given)) lt (is.states j b low less) (part_is j b) in
+    let opened : AreOpened pair (t + 1) next.classes = opened_more pair t version.classes stepped.words next.classes is.opened lanes (subst (λ (p : Pair). next.classes ≡ wide_splits 8 (places_of p) version.classes stepped.words) is.of_pair split) in
+    let width : ℕ = 8 * length pair.left.inputs in
     record {
       of_pair = of_pair ∙ is.of_pair;
       of_k = of_k ∙ is.of_k;
       sim_of = of_sim ∙ is.sim_of;
       frame = ap next_frame frame ∙ ap (λ (n : ℕ). n + 1) is.frame;
       size = ap length same ∙ len ∙ is.size;
-      states = λ b less. states b less ∙ ap (λ (p : Pair). next_state p (lane b sim.state) (lane b given)) is.sim_of ∙ next_is pair b t (lane b sim.state) (lane b given) lt (is.states b less) (ap (lane b) given_is);
-      words = more_after ∙ ap₂ after_words is.size is.words ∙ after_both (free_count pair + t * length pair.left.inputs) (length pair.left.inputs) seeded
-          ∙ ap (λ (n : ℕ). after_words n seeded) (more_words (free_count pair) t (length pair.left.inputs));
+      states = λ j b low less.
+          states j b low less ∙ ap (λ (p : Pair). next_state p (lane b (narrow sim j).state) (lane b (stripe (length sim.pair.left.inputs) j given))) is.sim_of
+          ∙ next_is pair j b t (lane b (narrow sim j).state) (lane b (stripe (length sim.pair.left.inputs) j given)) lt (is.states j b low less) (part_is j b);
+      words = more_after ∙ ap₂ after_words is.size is.words ∙ after_both (8 * free_count pair + t * width) width seeded ∙ ap (λ (n : ℕ). after_words n seeded) (more_words (8 * free_count pair) t width);
       opened = opened;
       frames = frames_more pair t version.classes next.classes added version.number next.number is.opened opened
           (subst (λ (p : Pair). class_count (places_of p) next.classes ≡ class_count (places_of p) version.classes + added) is.of_pair count) some (λ z. ap (λ (v : Standing). v.number) (none z)) is.frames;

@@ -1,4 +1,5 @@
 pub mod Versions
+pub mod WideSplits
 pub mod Published
 pub mod Proofs
 pub mod Opening

@@ -3,16 +3,18 @@ ghost use Rattle.std.specs.Prelude.{◌≡◌, ◌<◌, ◌≤◌, ◌+◌, ℕ,
 ghost use Rattle.circ_model.specs.Meaning.{latches_of, places_of, resets};
 ghost use Rattle.circ_model.specs.Runs.{first_bit, phases};
 ghost use Rattle.class_partition.specs.Classes.{HoldIn, class_count, split_of};
-ghost use Rattle.class_partition.specs.Words.{rows_of, split_of_words, splits_of};
+ghost use Rattle.class_partition.specs.Words.{rows_of, splits_of};
 ghost use Rattle.sim_words.specs.Lanes.{lane};
 ghost use Rattle.sim_words.specs.Simulation.{HasFrame};
+ghost use Rattle.sim_words.specs.Wide.{narrow};
 ghost use Rattle.verdict_stamp.specs.Versions.{IsVersion, first_version};
+ghost use Rattle.verdict_stamp.specs.WideSplits.{wide_splits};
 
 use crate::vector::Vector;
 use bit_rows::BitRow;
 use class_partition::Classes;
 use product_machine::Product;
-use sim_words::SimState;
+use sim_words::WideState;
 use std::alloc::{AllocError, Global};
 use std::marker::Model;
 
@@ -148,24 +150,70 @@ impl<'p> Version<'p> {
         added
     }
 
-    /// Splits the classes by the 64 lanes of a simulation of the same pair that has a frame, each of which is that frame of a
-    /// run, and answers how many classes that adds. The number rises by one exactly where that is some. An error leaves the
-    /// version as it was.
-    pub fn split_by_sim(&mut self, alloc: Global, sim: &SimState<'_>) -> Result<u32, AllocError>
+    // Splits the classes by word j of each place's eight, and answers how many classes that adds. The number stays, and the
+    // buffer holds the words.
+    fn split_by_part(
+        &mut self,
+        alloc: Global,
+        sim: &WideState<'_>,
+        j: u32,
+        words: &mut [u64],
+    ) -> Result<u32, AllocError>
+        requires pair { sim.now.pair ≡ self.old.pair }
+        requires frame { HasFrame sim.now.frame }
+        requires part { j < 8 }
+        requires size { length words.old ≡ places_of self.old.pair }
+        ensures size { length words.new ≡ places_of self.old.pair }
+        ensures product { self.new.pair ≡ self.old.pair }
+        ensures k { self.new.k ≡ self.old.k }
+        ensures number { self.new.number ≡ self.old.number }
+        ensures rows { OnOk result (self.new.classes ≡ splits_of (places_of self.old.pair) self.old.classes (rows_of (narrow sim.now j).words)) }
+        ensures count { IfOk result (λ added. class_count (places_of self.old.pair) self.new.classes ≡ class_count (places_of self.old.pair) self.old.classes + added) }
+        ensures none { IfOk result (λ added. added ≡ 0 → (self.new ≡ self.old) × ((b : ℕ) → b < 64 → HoldIn (places_of self.old.pair) self.old.classes (lane b (narrow sim.now j).words))) }
+    {
+        let _frame = sim.frame();
+        let _places = self.product.len();
+        sim.write_words(j, words);
+        let added = self.partition.split_by_words(alloc, words)?;
+        Ok(added)
+    }
+
+    // Splits the classes by the eight numbers of words in turn. The number of splits stays.
+    fn split_by_parts(&mut self, alloc: Global, sim: &WideState<'_>) -> Result<(), AllocError>
         requires pair { sim.now.pair ≡ self.old.pair }
         requires frame { HasFrame sim.now.frame }
         ensures product { self.new.pair ≡ self.old.pair }
         ensures k { self.new.k ≡ self.old.k }
-        ensures split { OnOk result (self.new.classes ≡ split_of_words (places_of self.old.pair) self.old.classes sim.now.words) }
-        ensures rows { OnOk result (self.new.classes ≡ splits_of (places_of self.old.pair) self.old.classes (rows_of sim.now.words)) }
+        ensures number { self.new.number ≡ self.old.number }
+        ensures split { OnOk result (self.new.classes ≡ wide_splits 8 (places_of self.old.pair) self.old.classes sim.now.words) }
+        ensures more { OnOk result (class_count (places_of self.old.pair) self.old.classes ≤ class_count (places_of self.old.pair) self.new.classes) }
+        ensures none { OnOk result (class_count (places_of self.old.pair) self.new.classes ≡ class_count (places_of self.old.pair) self.old.classes → (self.new ≡ self.old) × ((j b : ℕ) → j < 8 → b < 64 → HoldIn (places_of self.old.pair) self.old.classes (lane b (narrow sim.now j).words))) }
+    {
+        let places = self.product().len();
+        let mut words = vec![in alloc; 0u64; places as usize]?;
+        for j in 0..8u32 {
+            self.split_by_part(alloc, sim, j, words.as_mut_slice())?;
+        }
+        Ok(())
+    }
+
+    /// Splits the classes by the 512 runs of a simulation of the same pair that has a frame, each of which is that frame of a
+    /// run, and answers how many classes that adds. The number rises by one exactly where that is some. After an error the
+    /// classes may be split by some of the runs, and the number is as before.
+    pub fn split_by_wide(&mut self, alloc: Global, sim: &WideState<'_>) -> Result<u32, AllocError>
+        requires pair { sim.now.pair ≡ self.old.pair }
+        requires frame { HasFrame sim.now.frame }
+        ensures product { self.new.pair ≡ self.old.pair }
+        ensures k { self.new.k ≡ self.old.k }
+        ensures split { OnOk result (self.new.classes ≡ wide_splits 8 (places_of self.old.pair) self.old.classes sim.now.words) }
         ensures count { IfOk result (λ added. class_count (places_of self.old.pair) self.new.classes ≡ class_count (places_of self.old.pair) self.old.classes + added) }
         ensures number { IfOk result (λ added. 0 < added → self.new.number ≡ self.old.number + 1) }
-        ensures none { IfOk result (λ added. added ≡ 0 → (self.new ≡ self.old) × ((b : ℕ) → b < 64 → HoldIn (places_of self.old.pair) self.old.classes (lane b sim.now.words))) }
-        ensures err { OnErr result (self.new ≡ self.old) }
+        ensures none { IfOk result (λ added. added ≡ 0 → (self.new ≡ self.old) × ((j b : ℕ) → j < 8 → b < 64 → HoldIn (places_of self.old.pair) self.old.classes (lane b (narrow sim.now j).words))) }
+        ensures err { OnErr result (self.new.number ≡ self.old.number) }
     {
-        let _frame = sim.frame();
-        let _places = self.product.len();
-        let more = self.partition.split_by_words(alloc, sim.words())?;
+        let before = self.classes().count();
+        self.split_by_parts(alloc, sim)?;
+        let more = self.classes().count() - before;
         self.splits += one_of(more);
         Ok(more)
     }
