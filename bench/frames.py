@@ -5,7 +5,7 @@ ends, or where the opening has its phases and where it is over.
 
     bench/frames.py PROGRAM GATES
 
-Prints the clauses, seconds, and clauses per second, for k = 1; and the gates, 16 frames of them in 64 runs, by seconds. Unproved; no
+Prints the clauses, seconds, and clauses per second, for k = 1; and the gates, 16 frames of them in 512 runs, eight words a gate, by seconds. Unproved; no
 contract claims time.
 """
 import os
@@ -61,7 +61,8 @@ def main():
     # two frames of three clauses a gate, two a latch between them; the clauses of equal signals come on top
     clauses = 6 * ands + 2 * latches
     print(f"{ands} gates, {latches} latches")
-    print(f"opening: {16 * ands} gate-words and their splits in {opening:.4f} s, {16 * ands / opening / 1e6:.0f} million a second")
+    words = 8 * 16 * ands
+    print(f"opening: {words} gate-words and their splits in {opening:.4f} s, {words / opening / 1e6:.0f} million a second")
     print(f"frames: more than {clauses} clauses in {frames:.4f} s, {clauses / frames / 1e6:.0f} million a second")
 
 
