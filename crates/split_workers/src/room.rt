@@ -7,9 +7,17 @@ ghost use Rattle.work_desk.specs.Seats.{HaveEnded};
 use bell::Bell;
 use prover_table::{Lent, Table};
 use refine_board::{Journal, Run};
+use std::mem;
 use std::sync::ledger::Ledger;
 use verdict_stamp::{ProverMemory, Version};
 use work_desk::{Desk, Seat};
+
+// What was proved at a table.
+fn memory_at<'p, L: Run>(table: Bell<Table<'_, 'p, L>>) -> Option<ProverMemory<'p>>
+    ensures { IfSome result (IsMemoryFor L.pair L.k) }
+{
+    table.into_inner().into_memory()
+}
 
 /// The desk behind its lock, with the bell that wakes those who wait for work; the table at which workers take turns, behind a lock of
 /// its own; and what is read without a lock. Who has both locks took that of the table first.
@@ -48,7 +56,7 @@ impl<'v, 'p, L: Run, E: Ledger, O: Ledger> Room<'v, 'p, L, E, O> {
         ensures memory { IfSome memory.new (IsMemoryFor L.pair L.k) }
     {
         let Room { desk, table, .. } = self;
-        *memory = table.into_inner().into_memory();
+        drop(mem::replace(memory, memory_at(table)));
         desk.into_inner().close(told)
     }
 }

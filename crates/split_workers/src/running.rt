@@ -190,7 +190,10 @@ pub fn refine<'p, R: Threads + Wait + Sync, G: Gate>(
         k,
         workers,
     };
-    refine_known(rt, alloc, task, gate, &mut Earlier::nothing())
+    let mut earlier = Earlier::nothing();
+    let refined = refine_known(rt, alloc, task, gate, &mut earlier);
+    drop(earlier);
+    refined
 }
 
 /// The same where earlier runs left something. Each pair of the classes that are known passes for k too, so the workers ask no

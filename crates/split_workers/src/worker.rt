@@ -69,7 +69,14 @@ impl<'r, 'v, 'p, L: Run, E: Ledger, O: Ledger, G: Gate> Worker<'r, 'v, 'p, L, E,
         ensures ended { result.ended ≡ self.entry.ended }
         ensures owed { result.owed ≡ self.entry.owed }
     {
-        let Worker { desk, .. } = self;
+        let Worker {
+            desk,
+            place,
+            pocket,
+            ..
+        } = self;
+        drop(place);
+        drop(pocket);
         desk.into_seat()
     }
 
@@ -274,10 +281,12 @@ pub(crate) fn work<'v, 'p, L: Run, E: Ledger, O: Ledger, G: Gate>(
     let mut desk = Caller::new(&room.desk, gate, seat);
     let Ok(place) = Place::new(alloc, room) else {
         desk.stop(rt);
+        drop(desk);
         return None;
     };
     let mut worker = Worker::new(alloc, desk, place, most_of(room.lent.places));
     if !worker.work(rt) {
+        drop(worker);
         return None;
     }
     Some(worker.into_seat())
