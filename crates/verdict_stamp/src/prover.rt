@@ -219,15 +219,25 @@ impl<'v, 'p> Prover<'v, 'p> {
         ensures { IfOk result (λ p. p ≡ version.now) }
     {
         let _product = version.product();
+        let mut memory = memory;
+        if memory.rows.turn_to(alloc, version.classes()).is_err() {
+            drop(memory);
+            return Err(AllocError);
+        }
         let ProverMemory {
             sweep,
-            mut rows,
+            rows,
             base,
             resets,
             steps,
         } = memory;
-        let sweep = Sweep::new(sweep, version.classes())?;
-        rows.turn_to(alloc, version.classes())?;
+        let Ok(sweep) = Sweep::new(sweep, version.classes()) else {
+            drop(rows);
+            drop(base);
+            drop(resets);
+            drop(steps);
+            return Err(AllocError);
+        };
         Ok(Prover {
             current: version,
             sweep,
