@@ -11,6 +11,7 @@ use crate::lent::Lent;
 use refine_board::{Offer, Run};
 use std::alloc::{AllocError, Global};
 use std::marker::{Model, PhantomData};
+use std::mem;
 use verdict_stamp::{Asker, Halt, Proof, ProverMemory};
 
 // So many workers a run has at most.
@@ -81,7 +82,7 @@ impl<'v, 'p, L: Run> Table<'v, 'p, L> {
         let bench = self.bench.take();
         let mut at = bench_for(alloc, lent, bench, &mut self.memory, offer.stamp())?;
         let found = find_at(alloc, lent, &mut at, asker, offer);
-        self.bench = Some(at);
+        drop(mem::replace(&mut self.bench, Some(at)));
         self.note(offer.party(), unsettled(offer, &found));
         found
     }
