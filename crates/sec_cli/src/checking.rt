@@ -358,7 +358,10 @@ fn check_agreed<'p, R: Threads + Wait + Sync, G: Gate>(
     ensures status { IfOk result (λ r. r.0.status ≤ 2) }
     ensures journal { IfOk result (λ r. is_some r.0.journal ≡ is_refined r.0.status) }
 {
-    check_beyond(rt, alloc, product, c, &mut Reached::first(), gate)
+    let mut reached = Reached::first();
+    let found = check_beyond(rt, alloc, product, c, &mut reached, gate);
+    drop(reached);
+    found
 }
 
 /// The verdict of a pair, as it is printed.
@@ -377,6 +380,7 @@ pub(crate) fn check_pair<R: Threads + Wait + Sync, G: Gate>(
     if let Some(diff) = least_difference(alloc, product, 1)? {
         return different(alloc, product, c, diff);
     }
-    let (answer, _) = check_agreed(rt, alloc, product, c, gate)?;
+    let (answer, version) = check_agreed(rt, alloc, product, c, gate)?;
+    drop(version);
     Ok(answer)
 }

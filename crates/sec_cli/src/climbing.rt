@@ -18,6 +18,7 @@ use refine_board::Journal;
 use sec_base::Gate;
 use split_workers::Earlier;
 use std::alloc::{AllocError, Global};
+use std::mem;
 use std::sync::Wait;
 use std::thread::Threads;
 use verdict_stamp::{Known, ProverMemory, Version};
@@ -91,10 +92,10 @@ fn reach<'p>(
     let k = version.k();
     let known = known_after(alloc, version)?;
     reached.agreed = k;
-    reached.earlier.known = Some(known);
+    drop(mem::replace(&mut reached.earlier.known, Some(known)));
     if let Some(left) = reached.earlier.memory.take() {
         let deeper = left.deeper(alloc)?;
-        reached.earlier.memory = Some(deeper);
+        drop(mem::replace(&mut reached.earlier.memory, Some(deeper)));
     }
     Ok(())
 }
@@ -201,7 +202,9 @@ fn climb_on<R: Threads + Wait + Sync, G: Gate>(
     ensures journal { IfOk result (λ a. HasJournal (ForClimb (climb_asked c.now)) a.status a.journal) }
 {
     let mut reached = reached_first(alloc, product, c.most)?;
-    climb_from(rt, alloc, product, c, &mut reached, gate)
+    let answer = climb_from(rt, alloc, product, c, &mut reached, gate);
+    drop(reached);
+    answer
 }
 
 /// The verdict of the least depth of the induction that decides, as it is printed, or where none up to the greatest does, that

@@ -108,7 +108,9 @@ fn reduce_pair<R: Threads + Wait + Sync, G: Gate>(
         journal,
         ..
     } = refine(rt, alloc, product, r.k, r.workers, gate)?;
-    answer_by(alloc, product, r, version.classes(), journal)
+    let answer = answer_by(alloc, product, r, version.classes(), journal);
+    drop(version);
+    answer
 }
 
 /// What a netlist is reduced to, as it is stored, and what stays of it, as it is printed.
