@@ -4,7 +4,7 @@
 //! equal literals are equal for a reason near by (Kuehlmann and Krohm, DAC 1997). Where that doesn't settle it, the cone is. A
 //! question over a large cone may be put aside: it is solved without the graph, which others change meanwhile, and its answer is
 //! taken in once what it rests on is found to stand.
-ghost use Rattle.std.specs.Prelude.{◌≡◌, ◌<◌, ◌/◌, IfErr, IfOk, IfNone, IfSome, IsTrue, None, OnErr, OnOk, Some, false, is_some, length, true};
+ghost use Rattle.std.specs.Prelude.{◌≡◌, ◌<◌, ◌/◌, ◌⊎◌, IfErr, IfOk, IfNone, IfSome, IsTrue, None, OnErr, OnOk, Some, false, is_some, length, true};
 ghost use Rattle.and_graph.specs.Askers.{IsHalted, IsTaken, solved};
 ghost use Rattle.and_graph.specs.Graphs.{AreEqual, IsGraph};
 ghost use Rattle.and_graph.specs.Lemmas.{AreLemmas};
@@ -21,6 +21,7 @@ use circ_model::Lit;
 use sat_core::Answer;
 use std::alloc::{AllocError, Global};
 use std::marker::Model;
+use std::mem;
 
 /// How many nodes a window has.
 const WINDOW: u32 = 50;
@@ -124,14 +125,16 @@ impl Asker {
         ensures most { self.new.most ≡ self.old.most }
     {
         self.posed = None;
-        self.answer = None;
+        drop(self.answer.take());
         let cone = &mut self.cone;
         let given = cone.pose(nodes, lemmas, x, y, most, &mut self.clause)?;
         let is_whole = most == u32::MAX;
         let answer = self
             .solver
             .decide_on(alloc, cone, is_whole, &mut lemmas.activity)?;
-        cone.take(alloc, nodes, lemmas, Posed { x, y, given }, &answer)
+        let found = cone.take(alloc, nodes, lemmas, Posed { x, y, given }, &answer);
+        drop(answer);
+        found
     }
 
     // Asks about the whole cone, or puts that aside where it is large.
@@ -153,7 +156,7 @@ impl Asker {
         ensures halt { IfErr result (IsHalted self.old self.new) }
     {
         self.posed = None;
-        self.answer = None; // it was another cone's
+        drop(self.answer.take()); // it was another cone's
         let cone = &mut self.cone;
         let given = cone.pose(nodes, lemmas, x, y, u32::MAX, &mut self.clause)?;
         let mut is_large = false;
@@ -172,9 +175,12 @@ impl Asker {
         if is_large {
             lemmas.effort.note(&answer, self.hard.saturating_mul(4));
         }
-        let found = cone.take(alloc, nodes, lemmas, Posed { x, y, given }, &answer)?;
+        let taken = cone.take(alloc, nodes, lemmas, Posed { x, y, given }, &answer);
+        drop(answer);
+        let found = taken?;
         if let Some(pattern) = &found {
-            self.found = Some(Differing::of(alloc, x, y, pattern)?);
+            let differing = Differing::of(alloc, x, y, pattern)?;
+            drop(mem::replace(&mut self.found, Some(differing)));
         }
         Ok(found)
     }
@@ -243,6 +249,50 @@ impl Asker {
         self.ask_or_pose(alloc, nodes, lemmas, x, y)
     }
 
+    // Takes in the answer to what is put aside, as below. It stays aside.
+    fn take_in(
+        &mut self,
+        alloc: Global,
+        nodes: &[Node],
+        lemmas: &mut Lemmas,
+    ) -> Result<Option<(Lit, Lit)>, AllocError>
+        requires graph { IsGraph nodes.now }
+        requires lemmas { AreLemmas nodes.now lemmas.old.clauses }
+        ensures lemmas { AreLemmas nodes.now lemmas.new.clauses }
+        ensures left { IfOk result (λ r. IfSome r (λ s. s.0 / 2 < length nodes.now)) }
+        ensures right { IfOk result (λ r. IfSome r (λ s. s.1 / 2 < length nodes.now)) }
+        ensures equal { IfOk result (λ r. IfSome r (λ s. AreEqual nodes.now s.0 s.1)) }
+        ensures most { (self.new.most ≡ self.old.most) ⊎ (self.new.most ≡ None) }
+    {
+        let Some(posed) = self.posed else {
+            return Ok(None);
+        };
+        let Some(answer) = &self.answer else {
+            return Ok(None);
+        };
+        let Posed { x, y, given } = posed;
+        let cone = &self.cone;
+        lemmas.effort.note(answer, self.hard.saturating_mul(4));
+        self.solver
+            .leave(&mut lemmas.activity, cone.members.as_slice())?;
+        match answer {
+            Answer::Sat(row) => {
+                let pattern = pattern_of(alloc, nodes, &cone.members, row)?;
+                let differing = Differing::of(alloc, x, y, &pattern)?;
+                drop(mem::replace(&mut self.found, Some(differing)));
+                Ok(None)
+            }
+            Answer::Unsat(log) => {
+                if !cone.stands(nodes, lemmas, x, y, given) {
+                    self.most = None;
+                    return Ok(None);
+                }
+                lemmas.learn(alloc, nodes, &cone.members, &cone.cnf, given, log)?;
+                Ok(Some((x, y)))
+            }
+        }
+    }
+
     // Takes in the answer to what was put aside, if there is one: two literals that are equal, where what that rests on is found
     // to stand; else questions are answered at once from then on. Or what was found, for when it is asked again.
     pub(crate) fn take_answer(
@@ -259,31 +309,12 @@ impl Asker {
         ensures equal { IfOk result (λ r. IfSome r (λ s. AreEqual nodes.now s.0 s.1)) }
         ensures taken { OnOk result (IsTaken self.old self.new) }
     {
-        let Some(answer) = self.answer.take() else {
+        if self.answer.is_none() {
             return Ok(None);
-        };
-        let Some(posed) = self.posed.take() else {
-            return Ok(None);
-        };
-        let Posed { x, y, given } = posed;
-        let cone = &self.cone;
-        lemmas.effort.note(&answer, self.hard.saturating_mul(4));
-        self.solver
-            .leave(&mut lemmas.activity, cone.members.as_slice())?;
-        match &answer {
-            Answer::Sat(row) => {
-                let pattern = pattern_of(alloc, nodes, &cone.members, row)?;
-                self.found = Some(Differing::of(alloc, x, y, &pattern)?);
-                Ok(None)
-            }
-            Answer::Unsat(log) => {
-                if !cone.stands(nodes, lemmas, x, y, given) {
-                    self.most = None;
-                    return Ok(None);
-                }
-                lemmas.learn(alloc, nodes, &cone.members, &cone.cnf, given, log)?;
-                Ok(Some((x, y)))
-            }
         }
+        let taken = self.take_in(alloc, nodes, lemmas);
+        drop(self.answer.take());
+        self.posed = None; // it is answered
+        taken
     }
 }
