@@ -72,12 +72,10 @@ fn search(
     requires held { IfSome held (λ c. HoldOutputs product.now c.now) }
     ensures { IfOk result (IsLeastOrNone product.now k) }
 {
-    let mut asking = FrameSearch {
-        graph: Graph::new(alloc, 1023)?,
-        asker: Asker::new(alloc)?,
-        whole: WholeFrames::new(product),
-    };
-    asking.in_frames(alloc, product, held, from, k)
+    let mut asking = FrameSearch::new(alloc, product)?;
+    let found = asking.in_frames(alloc, product, held, from, k);
+    drop(asking);
+    found
 }
 
 // Whether an output is known to agree in every frame of every run.
@@ -100,6 +98,24 @@ struct FrameSearch<'p> {
     graph: Graph,
     asker: Asker,
     whole: WholeFrames<'p>,
+}
+
+impl<'p> FrameSearch<'p> {
+    // Nothing is mapped yet.
+    fn new(alloc: Global, product: &'p Product) -> Result<FrameSearch<'p>, AllocError>
+        ensures { IfOk result (λ s. s.whole ≡ product.entry.now) }
+    {
+        let graph = Graph::new(alloc, 1023)?;
+        let Ok(asker) = Asker::new(alloc) else {
+            drop(graph);
+            return Err(AllocError);
+        };
+        Ok(FrameSearch {
+            graph,
+            asker,
+            whole: WholeFrames::new(product),
+        })
+    }
 }
 
 impl FrameSearch<'_> {

@@ -119,6 +119,8 @@ pub fn least_run(alloc: Global, product: &Product, given: &Diff) -> Result<Diff,
     };
     let mut work = Workspace::new();
     let run = search.fix_all(alloc, &mut work);
+    drop(work);
+    drop(search);
     Ok(Diff {
         frame: given.frame,
         output: given.output,
