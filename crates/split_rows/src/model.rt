@@ -110,27 +110,45 @@ impl<'p> SplitRows<'p> {
         let mut inputs = vec![in alloc; 0u64; (self.k as usize + 1) * each]?;
         self.draw(start.as_mut_slice(), inputs.as_mut_slice());
         lay(bits, start.as_mut_slice(), inputs.as_mut_slice(), each);
-        agree(
-            alloc,
-            product,
-            classes,
-            inputs.as_slice(),
-            start.as_mut_slice(),
-        )?;
-        let mut lanes = StepLanes::new(alloc, product, self.k, classes, start.as_slice())?;
-        step_frames(&mut lanes, inputs.as_slice(), self.k + 1);
+        self.run_paths(alloc, classes, start.as_mut_slice(), inputs.as_mut_slice())
+    }
+
+    // The same with the words of a start, which is to agree with the classes, and of the inputs of the first k + 1 frames.
+    fn run_paths(
+        &mut self,
+        alloc: Global,
+        classes: &Classes,
+        start: &mut [u64],
+        inputs: &mut [u64],
+    ) -> Result<Vec<(u32, u32)>, AllocError>
+        requires places { length classes.now.least ≡ places_of self.old.pair }
+        requires few { self.old.k ≤ 16 }
+        requires keeps { KeepsGreatest self.old.pair self.old.k classes.now }
+        requires start { length start.old ≡ latches_of self.old.pair }
+        requires inputs { length inputs.old ≡ (self.old.k + 1) * length self.old.pair.left.inputs }
+        ensures kept { self.new ≡ self.old }
+        ensures broken { IfOk result (λ b. AllBroken self.old.k (places_of self.old.pair) b.items) }
+    {
+        let product = self.product;
+        let each = product.inputs() as usize;
+        agree(alloc, product, classes, inputs, start)?;
+        let mut lanes = StepLanes::new(alloc, product, self.k, classes, start)?;
+        step_frames(&mut lanes, inputs, self.k + 1);
         if lanes.lanes() == 0 {
             drop(lanes);
-            let mut again = StepLanes::new(alloc, product, self.k, classes, start.as_slice())?;
+            let mut again = StepLanes::new(alloc, product, self.k, classes, start)?;
             let before = self.k as usize * each;
-            return broken_places(alloc, &mut again, classes, &inputs[..before], self.k);
+            let broken = broken_places(alloc, &mut again, classes, &inputs[..before], self.k);
+            drop(again);
+            return broken;
         }
-        self.take_step(alloc, &lanes)?;
-        self.go_on(alloc, &mut lanes, &mut inputs[..each])?;
+        let gone = self.go_on(alloc, &mut lanes, &mut inputs[..each]);
+        drop(lanes);
+        gone?;
         Ok(Vec::new(alloc))
     }
 
-    // Simulates some frames more while they split, with inputs that are drawn.
+    // Takes in the rows at which paths stand, and simulates some frames more while they split, with inputs that are drawn.
     fn go_on(
         &mut self,
         alloc: Global,
@@ -144,6 +162,7 @@ impl<'p> SplitRows<'p> {
         requires inputs { length inputs.old ≡ length self.old.pair.left.inputs }
         ensures { self.new ≡ self.old }
     {
+        self.take_step(alloc, lanes)?;
         for _ in 0..MORE {
             self.stimulus.fill(inputs);
             lanes.step(inputs);

@@ -1,20 +1,7 @@
-use Rattle.std.proofs.Common.{◌∙◌, ap}
+use Rattle.std.proofs.Common.{subst, sym}
+use Rattle.class_partition.specs.Classes.{KeepsGreatest}
 use Rattle.pair_sweep.specs.Sweeps.{Extent}
-use Rattle.split_rows.proofs.Held.{keeps_by}
 use Rattle.split_rows.proofs.rows.SplitRows.run_on.Goals as goal
 
-pub take_step-requires-clause-keeps : goal.take_step-requires-clause-keeps
-take_step-requires-clause-keeps c =
-    let lanes = c.step_frames.new.lanes in
-    keeps_by lanes.pair c.args.self.now.pair lanes.k c.args.self.now.k lanes.classes c.args.classes.now
-    (c.step_frames.ensures.pair ∙ c.in_ok-lanes.ensures.pair ∙ ap (λ (e : Extent). e.pair) c.self.view_is)
-    (c.step_frames.ensures.k ∙ c.in_ok-lanes.ensures.k ∙ ap (λ (e : Extent). e.k) (c.self-2.view_is ∙ c.draw.ensures.kept))
-    (c.step_frames.ensures.classes ∙ c.in_ok-lanes.ensures.classes) c.requires.keeps
-
-pub go_on-requires-clause-keeps : goal.go_on-requires-clause-keeps
-go_on-requires-clause-keeps c =
-    let lanes = c.step_frames.new.lanes in
-    keeps_by lanes.pair c.args.self.now.pair lanes.k c.args.self.now.k lanes.classes c.args.classes.now
-    (c.step_frames.ensures.pair ∙ c.in_ok-lanes.ensures.pair ∙ ap (λ (e : Extent). e.pair) c.self.view_is)
-    (c.step_frames.ensures.k ∙ c.in_ok-lanes.ensures.k ∙ ap (λ (e : Extent). e.k) (c.self-2.view_is ∙ c.draw.ensures.kept))
-    (c.step_frames.ensures.classes ∙ c.in_ok-lanes.ensures.classes) c.requires.keeps
+pub run_paths-requires-clause-keeps : goal.run_paths-requires-clause-keeps
+run_paths-requires-clause-keeps c = subst (λ (e : Extent). KeepsGreatest e.pair e.k c.args.classes.now) (sym c.draw.ensures.kept) c.requires.keeps
