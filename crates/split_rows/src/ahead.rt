@@ -101,6 +101,31 @@ impl<'p> SplitRows<'p> {
         Ok(())
     }
 
+    // The same once, from a reset of all runs of a simulation.
+    fn run_from_reset(
+        &mut self,
+        alloc: Global,
+        sim: &mut SimState<'_>,
+        stimulus: &mut Stimulus,
+    ) -> Result<(), AllocError>
+        requires pair { sim.old.pair ≡ self.old.pair }
+        ensures { self.new ≡ self.old }
+    {
+        let (product, k) = (self.product, self.k);
+        draw_reset(alloc, sim, stimulus)?;
+        let mut inputs = vec![in alloc; 0u64; product.inputs() as usize]?;
+        self.run_while(alloc, sim, stimulus, inputs.as_mut_slice())?;
+        for t in 0..k {
+            let rows = next_rows(alloc, product, k, sim, stimulus, inputs.as_mut_slice())?;
+            if t == 0 {
+                self.reached = latch_words(alloc, product, rows.words())?;
+            }
+            self.steered.extend_from_slice(inputs.as_slice())?;
+            self.take(alloc, rows)?;
+        }
+        Ok(())
+    }
+
     /// Simulates 64 runs from reset while they split the classes, once, and takes in the rows that do. An `Err` is want of memory.
     pub fn run_ahead(&mut self, alloc: Global) -> Result<(), AllocError>
         ensures { self.new ≡ self.old }
@@ -109,27 +134,10 @@ impl<'p> SplitRows<'p> {
             return Ok(());
         }
         self.is_ahead = true;
-        let (product, k) = (self.product, self.k);
         let mut stimulus = Stimulus::new(3);
-        let mut sim = SimState::new(alloc, product)?;
-        draw_reset(alloc, &mut sim, &mut stimulus)?;
-        let mut inputs = vec![in alloc; 0u64; product.inputs() as usize]?;
-        self.run_while(alloc, &mut sim, &mut stimulus, inputs.as_mut_slice())?;
-        for t in 0..k {
-            let rows = next_rows(
-                alloc,
-                product,
-                k,
-                &mut sim,
-                &mut stimulus,
-                inputs.as_mut_slice(),
-            )?;
-            if t == 0 {
-                self.reached = latch_words(alloc, product, rows.words())?;
-            }
-            self.steered.extend_from_slice(inputs.as_slice())?;
-            self.take(alloc, rows)?;
-        }
-        Ok(())
+        let mut sim = SimState::new(alloc, self.product)?;
+        let ran = self.run_from_reset(alloc, &mut sim, &mut stimulus);
+        drop(sim);
+        ran
     }
 }
