@@ -45,6 +45,18 @@ pub(crate) fn lane_word(lane: u32) -> u64 {
 }
 
 impl Left {
+    // Adds all of these classes.
+    fn add_all(&mut self, classes: &Classes) -> Result<(), AllocError> {
+        for p in 0..classes.len() {
+            self.least.push(classes.rep(p))?;
+            self.signs.push(classes.phase(p))?;
+            if classes.rep(p) != p {
+                self.members.push(p)?;
+            }
+        }
+        Ok(())
+    }
+
     /// All of these classes.
     pub(crate) fn of(alloc: Global, classes: &Classes) -> Result<Left, AllocError> {
         let places = classes.len();
@@ -56,12 +68,9 @@ impl Left {
             twins: vec![in alloc; NONE; places as usize]?,
             parted: Vec::new(alloc),
         };
-        for p in 0..places {
-            left.least.push(classes.rep(p))?;
-            left.signs.push(classes.phase(p))?;
-            if classes.rep(p) != p {
-                left.members.push(p)?;
-            }
+        if left.add_all(classes).is_err() {
+            drop(left);
+            return Err(AllocError);
         }
         Ok(left)
     }
