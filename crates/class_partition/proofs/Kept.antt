@@ -7,8 +7,8 @@ use Rattle.class_partition.proofs.Counting.{counted, counted_le, next, one}
 use Rattle.class_partition.proofs.Splitting.{split_is}
 use Rattle.class_partition.proofs.Unsplit.{unsplit_holds, unsplit_stays}
 
-abbrev pub IsKept : List ℕ → List Bool → List ℕ → ℕ → Type 0
-IsKept least phase other count = ArePartition (length least) (classes_of least phase) × (length other ≡ length least) × (count ≡ class_count (length least) (classes_of least phase))
+abbrev pub IsKept : List ℕ → List Bool → ℕ → Type 0
+IsKept least phase count = ArePartition (length least) (classes_of least phase) × (count ≡ class_count (length least) (classes_of least phase))
 
 zero_at : (n p : ℕ) → slice_index (replicate n 0) p ≡ 0
 zero_at zero p = refl
@@ -32,21 +32,20 @@ count_one (suc n) phase some =
     let z : counted (is_least c) 1 n ≡ 0 = omega arith in
     next (is_least c) 0 n ∙ ap (λ k. 1 + k) z
 
-pub one_kept : (n count : ℕ) (phase : List Bool) → length phase ≡ n → count ≡ class_count n (classes_of (replicate n 0) phase) → IsKept (replicate n 0) phase (replicate n 0) count
-one_kept n count phase len counts = subst (λ m. ArePartition m (classes_of (replicate n 0) phase) × (m ≡ m) × (count ≡ class_count m (classes_of (replicate n 0) phase))) (sym (length-replicate n 0)) (
+pub one_kept : (n count : ℕ) (phase : List Bool) → length phase ≡ n → count ≡ class_count n (classes_of (replicate n 0) phase) → IsKept (replicate n 0) phase count
+one_kept n count phase len counts = subst (λ m. ArePartition m (classes_of (replicate n 0) phase) × (count ≡ class_count m (classes_of (replicate n 0) phase))) (sym (length-replicate n 0)) (
   record { least_len = length-replicate n 0; phase_len = len; lower = λ p lt. let z = zero_at n p in omega arith; fixed = λ p lt. zero_at n (slice_index (replicate n 0) p) ∙ sym (zero_at n p) },
-  refl,
   counts,
 )
 
 -- what a split leaves
-pub split_kept : (n : ℕ) (least : List ℕ) (phase : List Bool) (row : List Bool) (after other : List ℕ) (count added : ℕ) → ArePartition n (classes_of least phase) → after ≡ (split_of n (classes_of least phase) row).least → length other ≡ n
-    → count ≡ class_count n (classes_of least phase) → class_count n (classes_of after phase) ≡ class_count n (classes_of least phase) + added → IsKept after phase other (count + added)
-split_kept n least phase row after other count added is split size counts more =
+pub split_kept : (n : ℕ) (least : List ℕ) (phase : List Bool) (row : List Bool) (after : List ℕ) (count added : ℕ) → ArePartition n (classes_of least phase) → after ≡ (split_of n (classes_of least phase) row).least
+    → count ≡ class_count n (classes_of least phase) → class_count n (classes_of after phase) ≡ class_count n (classes_of least phase) + added → IsKept after phase (count + added)
+split_kept n least phase row after count added is split counts more =
     let same : classes_of after phase ≡ split_of n (classes_of least phase) row = ap (λ (l : List ℕ). classes_of l phase) split in
     let part : ArePartition n (classes_of after phase) = subst (ArePartition n) (sym same) (split_is n (classes_of least phase) row is).partition in
     let len : length after ≡ n = part.least_len in
-    subst (λ m. ArePartition m (classes_of after phase) × (length other ≡ m) × (count + added ≡ class_count m (classes_of after phase))) (sym len) (part, size, omega arith)
+    subst (λ m. ArePartition m (classes_of after phase) × (count + added ≡ class_count m (classes_of after phase))) (sym len) (part, omega arith)
 
 -- and where it adds no class
 pub split_none : (n : ℕ) (least : List ℕ) (phase : List Bool) (row : List Bool) (after : List ℕ) (added : ℕ) → ArePartition n (classes_of least phase) → after ≡ (split_of n (classes_of least phase) row).least

@@ -1,5 +1,5 @@
 -- What a split by words leaves in memory, and where it adds no class.
-use Rattle.std.proofs.Common.{◌≡◌, ◌∙◌, ◌<◌, ◌+◌, ℕ, Bool, List, length, ap, sym, subst, arith}
+use Rattle.std.proofs.Common.{◌≡◌, ◌∙◌, ◌<◌, ◌+◌, ℕ, Bool, List, ap, sym, subst, arith}
 use Rattle.class_partition.specs.Classes.{Classes, least_of, ArePartition, HoldIn, class_count}
 use Rattle.class_partition.specs.Steps.{classes_of}
 use Rattle.class_partition.specs.Words.{bits_of, rows_of, split_of_words, splits_of, IsSplitByWords}
@@ -16,10 +16,10 @@ module _ (n : ℕ) (least : List ℕ) (phase : List Bool) (words after : List �
   same : classes_of after phase ≡ split_of_words n (classes_of least phase) words
   same = ap (λ (l : List ℕ). classes_of l phase) split
 
-  pub word_split_kept : (other : List ℕ) (count added : ℕ) → length other ≡ n → count ≡ class_count n (classes_of least phase) → class_count n (classes_of after phase) ≡ class_count n (classes_of least phase) + added → IsKept after phase other (count + added)
-  word_split_kept other count added size counts more =
+  pub word_split_kept : (count added : ℕ) → count ≡ class_count n (classes_of least phase) → class_count n (classes_of after phase) ≡ class_count n (classes_of least phase) + added → IsKept after phase (count + added)
+  word_split_kept count added counts more =
       let part : ArePartition n (classes_of after phase) = subst (ArePartition n) (sym same) (word_split_is n (classes_of least phase) words is).partition in
-      subst (λ m. ArePartition m (classes_of after phase) × (length other ≡ m) × (count + added ≡ class_count m (classes_of after phase))) (sym part.least_len) (part, size, omega arith)
+      subst (λ m. ArePartition m (classes_of after phase) × (count + added ≡ class_count m (classes_of after phase))) (sym part.least_len) (part, omega arith)
 
   pub word_split_splits : IsSplitByWords n (classes_of least phase) words (classes_of after phase)
   word_split_splits = subst (IsSplitByWords n (classes_of least phase) words) (sym same) (word_split_is n (classes_of least phase) words is)

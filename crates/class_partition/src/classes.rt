@@ -19,7 +19,6 @@ use std::mem;
 pub struct Classes {
     least: Vec<u32>,
     phase: BitRow,
-    other: Vec<u32>,
     count: u32,
 }
 
@@ -32,7 +31,6 @@ impl Model for Classes {
     ghost view = { λ c. record { least = c.least.items; phase = c.phase } };
 
     ghost invariant = { λ c. ArePartition (length c.least.items) (record { least = c.least.items; phase = c.phase })
-        × (length c.other.items ≡ length c.least.items)
         × (c.count ≡ class_count (length c.least.items) (record { least = c.least.items; phase = c.phase })) };
 }
 
@@ -53,32 +51,28 @@ impl Classes {
     {
         let n = phases.len();
         let least = vec![in alloc; 0u32; n as usize]?;
-        let other = vec![in alloc; 0u32; n as usize]?;
         let mut phase = BitRow::with_len(alloc, n)?;
         phase.copy_from(phases);
         let count = if n == 0 { 0 } else { 1 };
         Ok(Classes {
             least,
             phase,
-            other,
             count,
         })
     }
 
     /// The classes with these least places and phases.
-    pub fn of_least(alloc: Global, least: Vec<u32>, phase: BitRow) -> Result<Classes, AllocError>
+    pub fn of_least(least: Vec<u32>, phase: BitRow) -> Classes
         requires { ArePartition (length least.items) (classes_of least.items phase) }
-        ensures { IfOk result (λ c. c ≡ classes_of least.items phase) }
+        ensures { result ≡ classes_of least.items phase }
     {
-        let n = phase.len();
-        let other = vec![in alloc; 0u32; n as usize]?;
+        let _places = phase.len();
         let count = count_least(least.as_slice());
-        Ok(Classes {
+        Classes {
             least,
             phase,
-            other,
             count,
-        })
+        }
     }
 
     /// The number of places.
@@ -171,7 +165,6 @@ impl Classes {
         Ok(Classes {
             least: self.least.clone()?,
             phase,
-            other: self.other.clone()?,
             count: self.count,
         })
     }
@@ -186,7 +179,7 @@ impl Classes {
         ensures none { result ≡ 0 → (self.new ≡ self.old) × HoldIn (length self.old.least) self.old row.now }
     {
         let _places = self.phase.len();
-        let added = split_places(&mut self.least, &self.phase, row, &mut self.other);
+        let added = split_places(&mut self.least, &self.phase, row);
         self.count += added;
         added
     }
@@ -205,9 +198,9 @@ impl Classes {
     {
         let _places = self.phase.len();
         let least = self.least.as_slice();
-        let after = self.other.as_mut_slice();
-        let more = parts::split_places(alloc, least, &self.phase, words, after)?;
-        mem::swap(&mut self.least, &mut self.other);
+        let mut after = vec![in alloc; 0u32; least.len()]?;
+        let more = parts::split_places(alloc, least, &self.phase, words, after.as_mut_slice())?;
+        drop(mem::replace(&mut self.least, after));
         self.count += more;
         Ok(more)
     }

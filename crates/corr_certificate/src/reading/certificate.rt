@@ -31,7 +31,7 @@ fn read_classes(
     match joining.read_lines(product, bytes, 2) {
         Err(fault) => Ok(Checked::No(fault)),
         Ok(at) => {
-            let classes = joining.into_classes(alloc)?;
+            let classes = joining.into_classes();
             read_body(alloc, product, k, &classes, at.rest, at.line)
         }
     }

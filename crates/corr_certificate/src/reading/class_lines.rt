@@ -186,10 +186,10 @@ impl Joining {
     }
 
     /// The classes that were read.
-    pub fn into_classes(self, alloc: Global) -> Result<Classes, AllocError>
+    pub fn into_classes(self) -> Classes
         requires { ArePartition (length self.classes.least) self.classes }
-        ensures { IfOk result (λ c. c ≡ self.classes) }
+        ensures { result ≡ self.classes }
     {
-        Classes::of_least(alloc, self.least, self.phase)
+        Classes::of_least(self.least, self.phase)
     }
 }

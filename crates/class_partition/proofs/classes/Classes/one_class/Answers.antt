@@ -14,5 +14,5 @@ invariant_of-result c =
       | then-n-eq0 w ↦ w.count-is ∙ sym (count_none n phase w.if-n-eq0.true)
       | else-n-eq0 w ↦ w.count-is ∙ sym (count_one n phase w.if-n-eq0.false)
     ] in
-    let kept : IsKept (replicate n 0) phase (replicate n 0) c.if-n-eq0.count = one_kept n c.if-n-eq0.count phase len count in
-    subst (λ (l : List ℕ). IsKept l phase c.in_ok-other.other.items c.if-n-eq0.count) (sym (c.in_ok-least.ensures.items_if_clones_equal (search rules))) (subst (λ (o : List ℕ). IsKept (replicate n 0) phase o c.if-n-eq0.count) (sym (c.in_ok-other.ensures.items_if_clones_equal (search rules))) kept)
+    let kept : IsKept (replicate n 0) phase c.if-n-eq0.count = one_kept n c.if-n-eq0.count phase len count in
+    subst (λ (l : List ℕ). IsKept l phase c.if-n-eq0.count) (sym (c.in_ok-least.ensures.items_if_clones_equal (search rules))) kept

@@ -10,12 +10,12 @@ pub overflow_add-self : goal.overflow_add-self
 overflow_add-self c =
     let i = c.self.inside in
     let most = count_most (length i.least.items) (classes_of c.split_places-added.new.least.items i.phase) in
-    omega (arith, c.self.invariant.2, c.split_places-added.ensures.count, c.self.invariant.0.phase_len, c.len-places.ensures, c.len-places.type_inv)
+    omega (arith, c.self.invariant.1, c.split_places-added.ensures.count, c.self.invariant.0.phase_len, c.len-places.ensures, c.len-places.type_inv)
 
 pub invariant_of-self : goal.invariant_of-self
 invariant_of-self c =
     let i = c.self.inside in
-    split_kept (length i.least.items) i.least.items i.phase c.args.row.now c.split_places-added.new.least.items c.split_places-added.new.other.items i.count c.split_places-added.result c.self.invariant.0 c.split_places-added.ensures.split (c.split_places-added.ensures.others ∙ c.self.invariant.1) c.self.invariant.2 c.split_places-added.ensures.count
+    split_kept (length i.least.items) i.least.items i.phase c.args.row.now c.split_places-added.new.least.items i.count c.split_places-added.result c.self.invariant.0 c.split_places-added.ensures.split c.self.invariant.1 c.split_places-added.ensures.count
 
 pub returns-clause-none : goal.returns-clause-none
 returns-clause-none c z =
