@@ -44,11 +44,17 @@ impl ConeSolver {
         self.solve(alloc, cnf)
     }
 
-    /// Has the next question begin with the activities of its members' nodes.
+    /// Has the next question begin with the activities of its members' nodes. The first two members, the nodes of its literals,
+    /// are decided before all others, as assumptions are in an incremental solver: what is learned then names them, and rests
+    /// less often on the clauses that say that they differ, so that more of it are lemmas.
     pub fn begin_with(&mut self, activity: &Activity, members: &[u32]) -> Result<(), AllocError> {
         self.row.clear();
         for n in members {
             self.row.push(activity.at(*n))?;
+        }
+        if self.row.len() > 1 {
+            self.row[0] = u32::MAX;
+            self.row[1] = u32::MAX;
         }
         self.work.begin_with(self.row.as_slice())
     }
