@@ -1,8 +1,8 @@
 -- Cones node by node: what their clauses say of the values of a valuation.
 use Rattle.std.proofs.Common.{◌≡◌, ◌∙◌, ◌<◌, ◌/◌, ◌&&◌, ◌⊎◌, ⊎_elim, inl, inr, ℕ, Bool, true, false, not, true≢false, List, [], length, map, get_or, refl, ap, ap₂, sym, subst, arith}
 use Rattle.std.proofs.lemmas.List.{get_or-map}
-use Rattle.circ_model.specs.Meaning.{bit, is_odd, literal_value, signed}
-use Rattle.circ_model.proofs.Literals.{half_literal}
+use Rattle.circ_model.specs.Meaning.{bit, is_odd, literal, literal_value, signed}
+use Rattle.circ_model.proofs.Literals.{half_literal, odd_literal}
 use Rattle.cnf_store.specs.Clauses.{Formula, satisfies}
 use Rattle.and_graph.specs.declared.node.Node.{Node}
 use Rattle.and_graph.specs.Graphs.{AreEqual, IsGate, IsGraph, IsLeaf, Obeys, node_at, product_of}
@@ -44,6 +44,15 @@ pub cone_low : (nodes : List Node) (members : List ℕ) (old new : Formula) (j :
     → ((asg : List Bool) → satisfies asg old.clauses ≡ true → bit asg j ≡ false → satisfies asg new.clauses ≡ true) → IsCone nodes members new
 cone_low nodes members old new j is vars lt at adds = cone_more nodes members members old new is (goes_on_same members) is.within (vars ∙ is.vars)
     (λ v asg obeys shown was. adds asg was (member_bit members v asg j 0 shown lt at ∙ obeys.low))
+
+-- a node is equal to a literal
+pub cone_equal : (nodes : List Node) (members : List ℕ) (old new : Formula) (n lit left right : ℕ) → IsCone nodes members old → new.vars ≡ old.vars → left < length members → member_at members left ≡ n → right < length members → member_at members right ≡ lit / 2 → AreEqual nodes (literal n false) lit
+    → ((asg : List Bool) → satisfies asg old.clauses ≡ true → bit asg left ≡ signed (is_odd lit) (bit asg right) → satisfies asg new.clauses ≡ true) → IsCone nodes members new
+cone_equal nodes members old new n lit left right is vars in_left at_left in_right at_right equal adds = cone_more nodes members members old new is (goes_on_same members) is.within (vars ∙ is.vars)
+    (λ v asg obeys shown was. adds asg was (member_bit members v asg left n shown in_left at_left ∙ sym (value_of_own v n) ∙ equal v obeys ∙ ap (signed (is_odd lit)) (sym (member_bit members v asg right (lit / 2) shown in_right at_right))))
+  where
+    value_of_own : (v : ℕ → Bool) (n : ℕ) → literal_value v (literal n false) ≡ v n
+    value_of_own v n = ap₂ signed (odd_literal n false) (ap v (half_literal n false))
 
 -- a cone without members
 pub cone_empty : (nodes : List Node) (members : List ℕ) (formula : Formula) → members ≡ [] → formula.vars ≡ 0 → formula.clauses ≡ [] → IsCone nodes members formula

@@ -57,6 +57,19 @@ pub(crate) fn add_apart(cnf: &mut Cnf, x: (u32, bool), y: (u32, bool)) -> Result
     add_either(cnf, (x.0, !x.1), (y.0, !y.1))
 }
 
+// Two literals are equal.
+#[tactic(auto, using(crate::proofs::Learning::extends_twice))]
+pub(crate) fn add_equal(cnf: &mut Cnf, x: (u32, bool), y: (u32, bool)) -> Result<(), AllocError>
+    requires x { x.0 < cnf.old.vars }
+    requires y { y.0 < cnf.old.vars }
+    requires few { cnf.old.vars ≤ 2147483647 }
+    ensures vars { cnf.new.vars ≡ cnf.old.vars }
+    ensures ok { OnOk result ((a : List Bool) → satisfies a cnf.old.clauses ≡ true → signed x.1 (bit a x.0) ≡ signed y.1 (bit a y.0) → satisfies a cnf.new.clauses ≡ true) }
+{
+    add_either(cnf, (x.0, !x.1), y)?;
+    add_either(cnf, x, (y.0, !y.1))
+}
+
 // Variable j + 1 is false.
 pub(crate) fn add_low(cnf: &mut Cnf, j: u32) -> Result<(), AllocError>
     requires j { j < cnf.old.vars }

@@ -45,8 +45,8 @@ impl ConeSolver {
     }
 
     /// Has the next question begin with the activities of its members' nodes. The first two members, the nodes of its literals,
-    /// are decided before all others, as assumptions are in an incremental solver: what is learned then names them, and rests
-    /// less often on the clauses that say that they differ, so that more of it are lemmas.
+    /// begin as the most active of all, so that they are decided first, as assumptions are in an incremental solver, until
+    /// conflicts have raised others above them.
     pub fn begin_with(&mut self, activity: &Activity, members: &[u32]) -> Result<(), AllocError> {
         self.row.clear();
         for n in members {

@@ -1,5 +1,6 @@
-//! How hard questions over large cones were of late. Where they were easy, the next is answered at once: that takes less time than to
-//! solve it without the graph, and what its refutation teaches is there for the others. No fact rests on it.
+//! How hard questions over cones were of late. Where those over large ones were easy, the next is answered at once: that takes less
+//! time than to solve it without the graph, and what its refutation teaches is there for the others. Where those over whole cones were
+//! hard, equal nodes are taken in too. No fact rests on it.
 use sat_core::Answer;
 
 /// The lines of the last refutations, those of late more.

@@ -181,6 +181,7 @@ impl Graph {
     {
         let lit = canonical_of(self.nodes.as_slice(), to);
         self.nodes[n as usize].canonical = lit;
+        self.lemmas.note_merged(n);
     }
 
     /// Asks the solver whether two literals can differ, over the nodes on which they rest. None: they are equal under each

@@ -34,9 +34,13 @@ pub(crate) struct Lemmas {
     last: Vec<u32>,
     before: Vec<u32>,
     row: Vec<Lit>,
+    // the nodes that were merged into others: hints
+    merged: Vec<u32>,
     // what questions left of the nodes beside, and how hard they were
     pub activity: Activity,
     pub effort: Effort,
+    // how hard questions over whole cones were, large or not
+    pub toil: Effort,
 }
 
 // The node's literal for which a literal of a member stands.
@@ -101,8 +105,10 @@ impl Lemmas {
             last: Vec::new(alloc),
             before: Vec::new(alloc),
             row: Vec::new(alloc),
+            merged: Vec::new(alloc),
             activity: Activity::new(alloc),
             effort: Effort::new(),
+            toil: Effort::new(),
         }
     }
 
@@ -121,6 +127,27 @@ impl Lemmas {
             self.before[i as usize]
         } else {
             NONE
+        }
+    }
+
+    /// Notes that a node was merged into another. A hint, which goes where memory runs out.
+    pub fn note_merged(&mut self, n: u32)
+        ensures { self.new.clauses ≡ self.old.clauses }
+    {
+        let _ = self.merged.push(n);
+    }
+
+    /// How many nodes were merged into others.
+    pub fn merges(&self) -> usize {
+        self.merged.len()
+    }
+
+    /// The node that was merged as this one of them.
+    pub fn merged(&self, i: usize) -> u32 {
+        if i < self.merged.len() {
+            self.merged[i]
+        } else {
+            0
         }
     }
 

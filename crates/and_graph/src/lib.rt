@@ -14,6 +14,7 @@ mod clauses;
 mod cone;
 mod cone_solver;
 mod effort;
+mod equals;
 mod frontier;
 mod graph;
 mod halt;

@@ -66,6 +66,20 @@ fn says_operand(nodes: &[Node], members: &[u32], clause: &[i32]) -> bool
     own.complement() && (other == left || other == right)
 }
 
+// Whether a clause says that one of two literals is true that are complements.
+fn says_equal(nodes: &[Node], members: &[u32], clause: &[i32]) -> bool
+    requires graph { IsGraph nodes.now }
+    requires size { length clause.now ≡ 2 }
+    requires literals { AreLiterals (length members.now) clause.now }
+    requires few { length members.now ≤ 2147483647 }
+    requires members { AreWithin (length nodes.now) members.now }
+    ensures { IsTrue result → ClauseHolds nodes.now members.now clause.now }
+{
+    let a = literal_at(nodes, members, clause, 0);
+    let b = literal_at(nodes, members, clause, 1);
+    a == b.not()
+}
+
 // Whether two literals are the complements of two, in either order.
 fn are_complements(a: Lit, b: Lit, left: Lit, right: Lit) -> bool
     ensures { IsTrue result → (v : ℕ → Bool) → literal_value v a ≡ false → literal_value v b ≡ false → product_of v left right ≡ true }
@@ -137,7 +151,7 @@ fn says_nodes(nodes: &[Node], members: &[u32], clause: &[i32]) -> bool
 {
     match clause.len() {
         1 => says_low(nodes, members, clause),
-        2 => says_operand(nodes, members, clause),
+        2 => { says_operand(nodes, members, clause) || says_equal(nodes, members, clause) }
         3 => says_gate(nodes, members, clause),
         _ => false,
     }

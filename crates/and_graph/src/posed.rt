@@ -15,6 +15,9 @@ use circ_model::Lit;
 use sat_core::Answer;
 use std::alloc::{AllocError, Global};
 
+// So many lines of a refutation count at most for how hard questions were.
+const MOST_LINES: u64 = 4000;
+
 /// A question: its literals, and how many clauses its cone had before those that say that they differ.
 #[derive(Clone, Copy)]
 pub(crate) struct Posed {
@@ -112,6 +115,9 @@ impl Cone {
         ensures equal { IfOk result (λ found. IfNone found (AreEqual nodes.now posed.x posed.y)) }
     {
         let members = &self.members;
+        if self.frontier.is_empty() {
+            lemmas.toil.note(answer, MOST_LINES);
+        }
         match answer {
             Answer::Unsat(log) => {
                 lemmas.learn(alloc, nodes, members, &self.cnf, posed.given, log)?;

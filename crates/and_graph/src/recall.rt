@@ -14,6 +14,10 @@ use crate::node::Node;
 use circ_model::Lit;
 use std::alloc::AllocError;
 
+// Equal nodes are taken in too where the last refutations over whole cones had at least a line for so many members: laying them
+// costs what the cone does, and saves where the search is long.
+const MEMBERS_A_LINE: u64 = 8;
+
 impl Cone {
     // The member for a node, where there is one.
     fn known_member(&self, n: u32) -> Option<u32>
@@ -139,7 +143,7 @@ impl Cone {
     }
 
     /// Expands so many members, those of the highest nodes first; or all, and then it takes in lemmas.
-    #[tactic(auto, using(crate::proofs::ConeMembers::goes_on_to))]
+    #[tactic(auto, using(crate::proofs::ConeMembers::goes_on_to, crate::proofs::ConeMembers::goes_on_twice))]
     pub fn lay(
         &mut self,
         nodes: &[Node],
@@ -155,6 +159,12 @@ impl Cone {
     {
         self.grow(nodes, most)?;
         if most == u32::MAX {
+            if lemmas
+                .toil
+                .is_of(self.members.len() as u64 / MEMBERS_A_LINE)
+            {
+                self.recall_equals(nodes, lemmas)?;
+            }
             self.recall_all(nodes, lemmas, clause)?;
         }
         Ok(())

@@ -2,6 +2,7 @@ use Rattle.std.proofs.Common.{◌≡◌, ◌<◌, List, length, set, false, refl
 use Rattle.circ_model.specs.Meaning.{literal}
 use Rattle.and_graph.specs.declared.node.Node.{Node}
 use Rattle.and_graph.specs.Graphs.{Agrees, AreEqual, Obeys, node_at}
+use Rattle.and_graph.specs.Lemmas.{AreLemmas}
 use Rattle.and_graph.proofs.Learning.{lemmas_later}
 use Rattle.and_graph.proofs.Nodes.{merged, merged_obeys, obeys_merged, read_is}
 use Rattle.and_graph.proofs.graph.Graph.merge.Goals as goal
@@ -16,7 +17,7 @@ invariant_of-self c =
           c.self.invariant.0 within c.requires.lower c.canonical_of-lit.ensures.lower (subst (λ (xs : List Node). AreEqual xs (literal c.args.n false) c.args.to) (sym c.self.view_is) c.requires.equal)
           (λ v agrees. c.canonical_of-lit.ensures.value v (subst (λ (xs : List Node). Agrees xs v) (sym c.as_slice.ensures.value) agrees))
           (ap (λ (x : Node). x.left) at) (ap (λ (x : Node). x.right) at) refl,
-      lemmas_later nodes (set nodes c.args.n node) c.self.inside.lemmas.clauses (λ v after. obeys_merged nodes c.args.n node v within (ap (λ (x : Node). x.left) at) (ap (λ (x : Node). x.right) at) after) c.self.invariant.1,
+      subst (AreLemmas (set nodes c.args.n node)) (sym c.note_merged.ensures) (lemmas_later nodes (set nodes c.args.n node) c.self.inside.lemmas.clauses (λ v after. obeys_merged nodes c.args.n node v within (ap (λ (x : Node). x.left) at) (ap (λ (x : Node). x.right) at) after) c.self.invariant.1),
     )
 
 pub returns-clause-valuations : goal.returns-clause-valuations
