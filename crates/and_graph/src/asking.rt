@@ -16,7 +16,7 @@ use crate::halt::Halt;
 use crate::lemmas::Lemmas;
 use crate::node::Node;
 use crate::pattern::{Pattern, pattern_of};
-use crate::posed::{Differing, Posed};
+use crate::posed::{Differing, MOST_LINES, Posed};
 use circ_model::Lit;
 use sat_core::Answer;
 use std::alloc::{AllocError, Global};
@@ -86,12 +86,12 @@ impl Asker {
         })
     }
 
-    /// Whether a question is put aside that rests on a node.
-    pub fn rests_on(&self, n: u32) -> bool
+    // Whether a question is put aside whose cone has two nodes, or what they rest on with a few gates between.
+    pub(crate) fn rests_on(&self, nodes: &[Node], n: u32, other: u32) -> bool
+        requires graph { IsGraph nodes.now }
         ensures { IsTrue result → is_some self.now.aside ≡ true }
     {
-        let j = self.cone.frontier.number_of(n) as usize;
-        self.posed.is_some() && j < self.cone.members.len() && self.cone.members[j] == n
+        self.posed.is_some() && self.cone.is_near(nodes, n, other)
     }
 
     /// Solves the question that is put aside, if there is one. It errs for want of memory alone.
@@ -273,6 +273,7 @@ impl Asker {
         let Posed { x, y, given } = posed;
         let cone = &self.cone;
         lemmas.effort.note(answer, self.hard.saturating_mul(4));
+        lemmas.toil.note(answer, MOST_LINES);
         self.solver
             .leave(&mut lemmas.activity, cone.members.as_slice())?;
         match answer {

@@ -23,8 +23,6 @@ pub(crate) struct Cone {
     pub frontier: Frontier,
     // of the clauses that lemmas are, which these were: hints
     pub recalled: Vec<u32>,
-    // nodes that equal ones would bring with them: hints
-    pub fresh: Vec<u32>,
 }
 
 // The operands of a node by now: the canonical literals of those that it was made with.
@@ -48,7 +46,6 @@ impl Cone {
             cnf: Cnf::new(alloc, 0)?,
             frontier: Frontier::new(alloc),
             recalled: Vec::new(alloc),
-            fresh: Vec::new(alloc),
         })
     }
 

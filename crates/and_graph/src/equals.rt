@@ -18,6 +18,48 @@ use std::alloc::AllocError;
 // So many new members at most two equal nodes bring with them.
 const MOST_NEW: usize = 20;
 
+// How many nodes are noted at most.
+const ROOM: usize = MOST_NEW + 3;
+
+// A few nodes.
+#[derive(Drop)]
+struct Few {
+    nodes: [u32; ROOM],
+    len: usize,
+}
+
+impl Few {
+    fn none() -> Few {
+        Few {
+            nodes: [0; ROOM],
+            len: 0,
+        }
+    }
+
+    // The node that was noted as this one.
+    fn at(&self, i: usize) -> Option<u32> {
+        if i < self.len && i < ROOM {
+            Some(self.nodes[i])
+        } else {
+            None
+        }
+    }
+
+    // Notes a node once, where there is room.
+    fn note(&mut self, n: u32) {
+        for i in 0..ROOM {
+            if i >= self.len {
+                self.nodes[i] = n;
+                self.len = i + 1;
+                return;
+            }
+            if self.nodes[i] == n {
+                return;
+            }
+        }
+    }
+}
+
 impl Cone {
     // Whether a node is a member.
     fn has(&self, n: u32) -> bool {
@@ -25,64 +67,45 @@ impl Cone {
         known < self.members.len() && self.members[known] == n
     }
 
-    // Notes on which nodes the noted ones rest, and these in their turn, down to members. Answers whether they are few gates.
-    fn reach(&mut self, nodes: &[Node]) -> Result<bool, AllocError>
+    // Notes a node, where it is no member.
+    fn note_new(&self, fresh: &mut Few, n: u32) {
+        if !self.has(n) {
+            fresh.note(n);
+        }
+    }
+
+    // Whether the noted nodes rest on members, with a few gates between.
+    fn reaches(&self, nodes: &[Node], fresh: &mut Few) -> bool
         requires graph { IsGraph nodes.now }
-        ensures members { self.new.members.items ≡ self.old.members.items }
-        ensures cnf { self.new.cnf ≡ self.old.cnf }
     {
-        for next in 0..2 * MOST_NEW {
-            if next >= self.fresh.len() {
-                return Ok(true);
-            }
-            let n = self.fresh[next];
+        for next in 0..ROOM {
+            let Some(n) = fresh.at(next) else {
+                return fresh.len <= MOST_NEW;
+            };
             if n as usize >= nodes.len() {
-                return Ok(false);
+                return false;
             }
             if n == 0 {
                 continue;
             }
             let (a, b) = operands_of(nodes, n);
-            if a.var() == n || self.fresh.len() > MOST_NEW {
-                return Ok(false);
+            if a.var() == n || fresh.len > MOST_NEW {
+                return false;
             }
-            self.note_new(a.var())?;
-            self.note_new(b.var())?;
-        }
-        Ok(false)
-    }
-
-    // Notes a node, where it is no member.
-    fn note_new(&mut self, n: u32) -> Result<(), AllocError>
-        ensures members { self.new.members.items ≡ self.old.members.items }
-        ensures cnf { self.new.cnf ≡ self.old.cnf }
-    {
-        if self.has(n) || self.is_noted(n) {
-            return Ok(());
-        }
-        self.fresh.push(n)?;
-        Ok(())
-    }
-
-    fn is_noted(&self, n: u32) -> bool {
-        for m in &self.fresh {
-            if *m == n {
-                return true;
-            }
+            self.note_new(fresh, a.var());
+            self.note_new(fresh, b.var());
         }
         false
     }
 
-    // Whether two nodes rest on members, with a few gates between.
-    fn is_near(&mut self, nodes: &[Node], n: u32, other: u32) -> Result<bool, AllocError>
+    /// Whether two nodes rest on members, with a few gates between.
+    pub fn is_near(&self, nodes: &[Node], n: u32, other: u32) -> bool
         requires graph { IsGraph nodes.now }
-        ensures members { self.new.members.items ≡ self.old.members.items }
-        ensures cnf { self.new.cnf ≡ self.old.cnf }
     {
-        self.fresh.clear();
-        self.note_new(n)?;
-        self.note_new(other)?;
-        self.reach(nodes)
+        let mut fresh = Few::none();
+        self.note_new(&mut fresh, n);
+        self.note_new(&mut fresh, other);
+        self.reaches(nodes, &mut fresh)
     }
 
     // The members for two nodes, with the gates beneath them.
@@ -132,7 +155,7 @@ impl Cone {
             return Ok(());
         }
         let lit = canonical_of(nodes, Lit::of(n, false));
-        if lit.var() != 0 && self.is_near(nodes, n, lit.var())? {
+        if lit.var() != 0 && self.is_near(nodes, n, lit.var()) {
             self.recall_equal(nodes, n, lit)?;
         }
         Ok(())

@@ -1,5 +1,5 @@
 //! The graph.
-ghost use Rattle.std.specs.Prelude.{◌≡◌, ◌<◌, ◌≤◌, ◌/◌, ◌+◌, ◌^◌, ℕ, Bool, false, IsTrue, IfErr, IfNone, IfOk, OnOk, OnErr, length};
+ghost use Rattle.std.specs.Prelude.{◌≡◌, ◌<◌, ◌≤◌, ◌/◌, ◌+◌, ◌^◌, ℕ, Bool, false, true, IsTrue, IfErr, IfNone, IfOk, OnOk, OnErr, is_some, length};
 ghost use Rattle.and_graph.specs.Askers.{IsHalted, IsTaken};
 ghost use Rattle.circ_model.specs.Meaning.{literal, literal_value};
 ghost use Rattle.and_graph.specs.Graphs.{AreEqual, GrowsTo, IsGraph, IsLeaf, Obeys, node_at, product_of};
@@ -220,6 +220,18 @@ impl Graph {
         ensures halt { IfErr result (IsHalted asker.old asker.new) }
     {
         asker.difference_or_pose(alloc, self.nodes.as_slice(), &mut self.lemmas, a, b)
+    }
+
+    /// Whether an asker has put a question aside that two literals are near: their nodes are in its cone, or rest on what is, with a
+    /// few gates between, so that it is better asked once they are merged. A hint.
+    pub fn rests_on(&self, asker: &Asker, a: Lit, b: Lit) -> bool
+        requires left { a / 2 < length self.now }
+        requires right { b / 2 < length self.now }
+        ensures { IsTrue result → is_some asker.now.aside ≡ true }
+    {
+        let x = canonical_of(self.nodes.as_slice(), a);
+        let y = canonical_of(self.nodes.as_slice(), b);
+        asker.rests_on(self.nodes.as_slice(), x.var(), y.var())
     }
 
     /// Takes in the answer to the question that the asker had put aside, of this graph or of an earlier state of it: where it says

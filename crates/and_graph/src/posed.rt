@@ -15,8 +15,8 @@ use circ_model::Lit;
 use sat_core::Answer;
 use std::alloc::{AllocError, Global};
 
-// So many lines of a refutation count at most for how hard questions were.
-const MOST_LINES: u64 = 4000;
+/// So many lines of a refutation count at most for how hard questions were.
+pub(crate) const MOST_LINES: u64 = 4000;
 
 /// A question: its literals, and how many clauses its cone had before those that say that they differ.
 #[derive(Clone, Copy)]

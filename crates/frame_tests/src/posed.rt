@@ -167,3 +167,98 @@ fn a_large_question_is_answered_while_none_was_hard(rt: HostRuntime) -> Result<(
     assert!(rt; is_answered_while_easy(rt.alloc())?);
     Ok(())
 }
+
+// So many leaves have a parity whose gates no window holds, and two orders of it share none.
+const BITS: u32 = 10;
+
+// The parity of two literals that a graph has.
+fn parity(graph: &mut Graph, a: Lit, b: Lit) -> Result<Lit, AllocError> {
+    let left = product(graph, a, b.not())?;
+    let right = product(graph, a.not(), b)?;
+    Ok(product(graph, left.not(), right.not())?.not())
+}
+
+// The parity of so many leaves, each so many after the one before, from one of them on.
+fn parity_of(graph: &mut Graph, first: u32, step: u32) -> Result<Lit, AllocError> {
+    let mut all = Lit::of(0, false);
+    for n in 0..BITS {
+        let leaf = 1 + (first % BITS + n * (step % BITS)) % BITS;
+        all = parity(graph, all, Lit::of(leaf, false))?;
+    }
+    Ok(all)
+}
+
+// Merges two literals that are found equal at once.
+fn merges(alloc: Global, graph: &mut Graph, asker: &mut Asker, a: Lit, b: Lit) -> bool {
+    if a.var() >= graph.len() || b.var() >= graph.len() {
+        return false;
+    }
+    match graph.difference(alloc, asker, a, b) {
+        Ok(None) => {
+            graph.merge_equal(a, b);
+            true
+        }
+        _ => false,
+    }
+}
+
+// Whether the parity of three leaves becomes one node, however it is made.
+fn is_one_parity(alloc: Global, graph: &mut Graph, asker: &mut Asker) -> Result<bool, AllocError> {
+    let (a, b, c) = (Lit::of(2, false), Lit::of(5, false), Lit::of(8, false));
+    let low = parity(graph, a, b)?;
+    let high = parity(graph, b, c)?;
+    let x = parity(graph, low, c)?;
+    let y = parity(graph, a, high)?;
+    Ok(merges(alloc, graph, asker, x, y))
+}
+
+// Whether the question about two parities is put aside, and its answer merges them.
+fn becomes_one(alloc: Global, graph: &mut Graph, asker: &mut Asker, a: Lit, b: Lit) -> bool {
+    is_put_aside(alloc, graph, asker, a, b)
+        && is_taken(alloc, graph, asker)
+        && are_same(graph, a, b)
+}
+
+// Whether three parities become one node, of which the last is asked for where refutations were hard, and nodes were merged near by.
+fn parities_become_one(alloc: Global) -> Result<bool, AllocError> {
+    let mut graph = graph_of_leaves(alloc)?;
+    let mut asker = Asker::posing(alloc, 2, 0)?;
+    let first = parity_of(&mut graph, 0, 1)?;
+    let second = parity_of(&mut graph, 3, 7)?;
+    let third = parity_of(&mut graph, 1, 3)?;
+    let near = is_one_parity(alloc, &mut graph, &mut asker)?;
+    let one = near && becomes_one(alloc, &mut graph, &mut asker, first, second);
+    Ok(one && becomes_one(alloc, &mut graph, &mut asker, first, third))
+}
+
+#[test]
+fn an_answer_that_rests_on_equal_nodes_merges(rt: HostRuntime) -> Result<(), Fail> {
+    assert!(rt; parities_become_one(rt.alloc())?);
+    Ok(())
+}
+
+// Whether what is put aside rests on two literals.
+fn rests_on(graph: &Graph, asker: &Asker, a: Lit, b: Lit) -> bool {
+    a.var() < graph.len() && b.var() < graph.len() && graph.rests_on(asker, a, b)
+}
+
+// Whether the question about two products rests on what is near its cone, and on nothing far.
+fn rests_on_what_is_near(alloc: Global) -> Result<bool, AllocError> {
+    let mut graph = graph_of_leaves(alloc)?;
+    let all = products(&mut graph)?;
+    let near = product(&mut graph, Lit::of(3, false), Lit::of(7, true))?;
+    let new = graph.leaf()?;
+    let beside = product(&mut graph, near, new)?;
+    let mut asker = Asker::posing(alloc, 2, 0)?;
+    let before = rests_on(&graph, &asker, all[1], all[2]);
+    let aside = is_put_aside(alloc, &mut graph, &mut asker, all[1], all[2]);
+    let own = rests_on(&graph, &asker, all[1], all[2]) && rests_on(&graph, &asker, all[1], near);
+    let far = rests_on(&graph, &asker, near, beside) || rests_on(&graph, &asker, near, all[0]);
+    Ok(!before && aside && own && !far)
+}
+
+#[test]
+fn a_question_rests_on_what_is_near(rt: HostRuntime) -> Result<(), Fail> {
+    assert!(rt; rests_on_what_is_near(rt.alloc())?);
+    Ok(())
+}

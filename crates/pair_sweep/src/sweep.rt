@@ -118,15 +118,6 @@ impl<'v, 'p> Model for Sweep<'v, 'p> {
     ghost invariant = { λ s. IsSweep s.graph s.resets s.steps s.k s.classes.now };
 }
 
-// Whether the question that an asker has put aside rests on both of two literals.
-fn rests_on_both(graph: &Graph, asker: &Asker, least: Lit, other: Lit) -> bool
-    requires left { least / 2 < length graph.now }
-    requires right { other / 2 < length graph.now }
-    ensures { IsTrue result → is_some asker.now.aside ≡ true }
-{
-    asker.rests_on(graph.canonical(least).var()) && asker.rests_on(graph.canonical(other).var())
-}
-
 impl<'v, 'p> Sweep<'v, 'p> {
     /// Maps the frames of the step for these classes: the first k with each place by the least place of its class. It errs for
     /// want of memory alone, and the memory of the sweep before is then gone.
@@ -243,7 +234,7 @@ impl<'v, 'p> Sweep<'v, 'p> {
     {
         for frame in 0..self.k {
             let (least, other) = self.resets.base_pair(self.classes, frame, member);
-            if rests_on_both(&self.graph, asker, least, other) {
+            if self.graph.rests_on(asker, least, other) {
                 return true;
             }
         }
@@ -251,7 +242,7 @@ impl<'v, 'p> Sweep<'v, 'p> {
             return false;
         }
         let (least, other) = self.steps.step_pair(self.classes, member);
-        rests_on_both(&self.graph, asker, least, other)
+        self.graph.rests_on(asker, least, other)
     }
 
     /// Takes in the answer to the question that the asker had put aside. It errs for want of memory alone.
