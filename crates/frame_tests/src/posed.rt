@@ -1,4 +1,7 @@
 //! Questions that are put aside, and what taking in their answers comes to.
+ghost use Rattle.std.specs.Prelude.{◌<◌, ◌/◌, IfNone, length};
+ghost use Rattle.and_graph.specs.Graphs.{AreEqual};
+
 use and_graph::{Asker, Graph, Halt, Pattern};
 use circ_model::Lit;
 use std::alloc::{AllocError, Global};
@@ -188,18 +191,32 @@ fn parity_of(graph: &mut Graph, first: u32, step: u32) -> Result<Lit, AllocError
     Ok(all)
 }
 
-// Merges two literals that are found equal at once.
-fn merges(alloc: Global, graph: &mut Graph, asker: &mut Asker, a: Lit, b: Lit) -> bool {
+// Merges two literals, unless values of leaves were found under which they differ.
+fn merge_unless(graph: &mut Graph, a: Lit, b: Lit, found: &Option<Pattern>)
+    requires left { a / 2 < length graph.old }
+    requires right { b / 2 < length graph.old }
+    requires equal { IfNone found.now (AreEqual graph.old a b) }
+{
+    match found {
+        None => graph.merge_equal(a, b),
+        Some(_) => {}
+    }
+}
+
+// Merges two literals where they are found equal at once.
+fn merges(
+    alloc: Global,
+    graph: &mut Graph,
+    asker: &mut Asker,
+    a: Lit,
+    b: Lit,
+) -> Result<bool, AllocError> {
     if a.var() >= graph.len() || b.var() >= graph.len() {
-        return false;
+        return Ok(false);
     }
-    match graph.difference(alloc, asker, a, b) {
-        Ok(None) => {
-            graph.merge_equal(a, b);
-            true
-        }
-        _ => false,
-    }
+    let found = graph.difference(alloc, asker, a, b)?;
+    merge_unless(graph, a, b, &found);
+    Ok(found.is_none())
 }
 
 // Whether the parity of three leaves becomes one node, however it is made.
@@ -209,7 +226,7 @@ fn is_one_parity(alloc: Global, graph: &mut Graph, asker: &mut Asker) -> Result<
     let high = parity(graph, b, c)?;
     let x = parity(graph, low, c)?;
     let y = parity(graph, a, high)?;
-    Ok(merges(alloc, graph, asker, x, y))
+    merges(alloc, graph, asker, x, y)
 }
 
 // Whether the question about two parities is put aside, and its answer merges them.
@@ -220,20 +237,29 @@ fn becomes_one(alloc: Global, graph: &mut Graph, asker: &mut Asker, a: Lit, b: L
 }
 
 // Whether three parities become one node, of which the last is asked for where refutations were hard, and nodes were merged near by.
-fn parities_become_one(alloc: Global) -> Result<bool, AllocError> {
+fn parities_become_one(
+    alloc: Global,
+    graph: &mut Graph,
+    asker: &mut Asker,
+) -> Result<bool, AllocError> {
+    let first = parity_of(graph, 0, 1)?;
+    let second = parity_of(graph, 3, 7)?;
+    let third = parity_of(graph, 1, 3)?;
+    let near = is_one_parity(alloc, graph, asker)?;
+    let one = near && becomes_one(alloc, graph, asker, first, second);
+    Ok(one && becomes_one(alloc, graph, asker, first, third))
+}
+
+// The same, in a graph of leaves alone.
+fn leaves_have_one_parity(alloc: Global) -> Result<bool, AllocError> {
     let mut graph = graph_of_leaves(alloc)?;
     let mut asker = Asker::posing(alloc, 2, 0)?;
-    let first = parity_of(&mut graph, 0, 1)?;
-    let second = parity_of(&mut graph, 3, 7)?;
-    let third = parity_of(&mut graph, 1, 3)?;
-    let near = is_one_parity(alloc, &mut graph, &mut asker)?;
-    let one = near && becomes_one(alloc, &mut graph, &mut asker, first, second);
-    Ok(one && becomes_one(alloc, &mut graph, &mut asker, first, third))
+    parities_become_one(alloc, &mut graph, &mut asker)
 }
 
 #[test]
 fn an_answer_that_rests_on_equal_nodes_merges(rt: HostRuntime) -> Result<(), Fail> {
-    assert!(rt; parities_become_one(rt.alloc())?);
+    assert!(rt; leaves_have_one_parity(rt.alloc())?);
     Ok(())
 }
 
@@ -243,22 +269,31 @@ fn rests_on(graph: &Graph, asker: &Asker, a: Lit, b: Lit) -> bool {
 }
 
 // Whether the question about two products rests on what is near its cone, and on nothing far.
-fn rests_on_what_is_near(alloc: Global) -> Result<bool, AllocError> {
-    let mut graph = graph_of_leaves(alloc)?;
-    let all = products(&mut graph)?;
-    let near = product(&mut graph, Lit::of(3, false), Lit::of(7, true))?;
+fn rests_on_what_is_near(
+    alloc: Global,
+    graph: &mut Graph,
+    asker: &mut Asker,
+) -> Result<bool, AllocError> {
+    let all = products(graph)?;
+    let near = product(graph, Lit::of(3, false), Lit::of(7, true))?;
     let new = graph.leaf()?;
-    let beside = product(&mut graph, near, new)?;
-    let mut asker = Asker::posing(alloc, 2, 0)?;
-    let before = rests_on(&graph, &asker, all[1], all[2]);
-    let aside = is_put_aside(alloc, &mut graph, &mut asker, all[1], all[2]);
-    let own = rests_on(&graph, &asker, all[1], all[2]) && rests_on(&graph, &asker, all[1], near);
-    let far = rests_on(&graph, &asker, near, beside) || rests_on(&graph, &asker, near, all[0]);
+    let beside = product(graph, near, new)?;
+    let before = rests_on(graph, asker, all[1], all[2]);
+    let aside = is_put_aside(alloc, graph, asker, all[1], all[2]);
+    let own = rests_on(graph, asker, all[1], all[2]) && rests_on(graph, asker, all[1], near);
+    let far = rests_on(graph, asker, near, beside) || rests_on(graph, asker, near, all[0]);
     Ok(!before && aside && own && !far)
+}
+
+// The same, in a graph of leaves alone.
+fn products_rest_on_what_is_near(alloc: Global) -> Result<bool, AllocError> {
+    let mut graph = graph_of_leaves(alloc)?;
+    let mut asker = Asker::posing(alloc, 2, 0)?;
+    rests_on_what_is_near(alloc, &mut graph, &mut asker)
 }
 
 #[test]
 fn a_question_rests_on_what_is_near(rt: HostRuntime) -> Result<(), Fail> {
-    assert!(rt; rests_on_what_is_near(rt.alloc())?);
+    assert!(rt; products_rest_on_what_is_near(rt.alloc())?);
     Ok(())
 }
