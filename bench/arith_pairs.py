@@ -3,8 +3,8 @@
 
     bench/arith_pairs.py FOLDER
 
-writes FOLDER/NAME_left.aig and FOLDER/NAME_right.aig: filters of a few constant factors, a barrel shifter with an adder, and a serial
-line, each beside what ABC's retiming and rewriting make of it (names that end with r) or beside what yosys makes of it in another
+writes FOLDER/NAME_left.aig and FOLDER/NAME_right.aig: filters of a few constant factors, a barrel shifter with an adder, a serial
+line, and a count of the ones of a word, each beside what ABC's retiming and rewriting make of it (names that end with r) or beside what yosys makes of it in another
 style, by its pass maccmap (names that end with m). Needs `yosys` and `yosys-abc` or `berkeley-abc`. Unproved."""
 import os
 import shutil
@@ -59,6 +59,17 @@ module top(input clk, input go, input [7:0] d, input rx, output reg tx, output b
 endmodule
 """
 
+COUNT = """
+module top(input clk, input [63:0] a, output reg [6:0] n, output reg p);
+  reg [63:0] r = 0;
+  reg [6:0] s;
+  integer i;
+  initial begin n = 0; p = 0; end
+  always @* begin s = 0; for (i = 0; i < 64; i = i + 1) s = s + r[i]; end
+  always @(posedge clk) begin r <= a; n <= s; p <= ^r; end
+endmodule
+"""
+
 
 def fir(factors, bits):
     names = [f"d{i}" for i in range(len(factors))]
@@ -78,6 +89,7 @@ CIRCUITS = {
     "fir6": fir([3, 27, 115, 115, 27, 3], 6),
     "alu": ALU,
     "uart": UART,
+    "count": COUNT,
 }
 
 END = "opt -full; setundef -zero -init -undriven; dffunmap; techmap; {abc}; opt_clean; write_aiger -zinit {out}"
