@@ -17,7 +17,8 @@ fn replay_step(classes: &mut Classes, step: &Step)
     ensures split { HasRow (length classes.old.least) step.now → classes.new ≡ replayed step.now classes.old }
 {
     let places = classes.len();
-    if let Step::Split(bits, _) = step {
+    if let Step::Split(laid, _) = step {
+        let bits = laid.row();
         if bits.len() == places {
             classes.split_by(bits);
         }

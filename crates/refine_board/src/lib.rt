@@ -18,7 +18,7 @@ pub use answers::{Cut, Kept, Offer, Take};
 pub use board::Board;
 pub use closing::finish;
 pub use history::replay;
-pub use journal::{Entry, Journal, Step};
+pub use journal::{Entry, Journal, LaidRow, Step};
 pub use laws::any_schedule;
 pub use marks::{LastOffer, Mark};
 pub use run::Run;

@@ -2,10 +2,12 @@
 ghost use Rattle.std.specs.Prelude.{◌≡◌, ◌≢◌, ◌<◌, ◌≤◌, ◌+◌, ◌^◌, ◌++◌, ◌∷◌, [], ℕ, length, map, set, slice_index, slice_index_or, replicate, Some, None, IfOk};
 ghost use Rattle.refine_board.specs.declared.marks.Mark.TheVariants.{Open};
 ghost use Rattle.refine_board.specs.declared.marks.LastOffer.{LastOffer};
+ghost use Rattle.refine_board.specs.declared.journal.Step.TheVariants.{Already, Split};
 ghost use Rattle.refine_board.specs.States.{is_counted, lasting};
 ghost use Rattle.refine_board.specs.Running.{IsMarkedAt, reopened_marks};
 
 use crate::journal::{Entry, Journal, Step};
+use bit_rows::BitRow;
 use class_partition::{Classes, Needed};
 use std::alloc::{AllocError, Global};
 use verdict_stamp::Used;
@@ -71,6 +73,20 @@ pub(crate) fn first_marked(classes: &Classes, marks: &[Mark], mark: Mark, from: 
     p
 }
 
+// Counts the party's call, and answers how many there were before.
+fn next_call(calls: &mut Vec<u64>, journal: &Journal, party: u32) -> u64
+    requires party { party < length calls.old.items }
+    requires few { slice_index calls.old.items party ≤ length journal.now.entries }
+    requires room { 0 < journal.now.room }
+    ensures call { result ≡ slice_index calls.old.items party }
+    ensures calls { calls.new.items ≡ set calls.old.items party (slice_index calls.old.items party + 1) }
+{
+    let _written = journal.len();
+    let call = calls[party as usize];
+    calls[party as usize] = call + 1;
+    call
+}
+
 // Counts the party's call and writes its entry.
 pub(crate) fn note(calls: &mut Vec<u64>, journal: &mut Journal, party: u32, step: Step)
     requires party { party < length calls.old.items }
@@ -80,14 +96,44 @@ pub(crate) fn note(calls: &mut Vec<u64>, journal: &mut Journal, party: u32, step
     ensures entries { journal.new.entries ≡ journal.old.entries ++ record { worker = party; call = slice_index calls.old.items party; step = step } ∷ [] }
     ensures room { journal.new.room + 1 ≡ journal.old.room }
 {
-    let _written = journal.len();
-    let call = calls[party as usize];
-    calls[party as usize] = call + 1;
+    let call = next_call(calls, journal, party);
     journal.push(Entry {
         worker: party,
         call,
         step,
     });
+}
+
+// The same for a call that split the classes by these bits, into so many more.
+pub(crate) fn note_split(
+    calls: &mut Vec<u64>,
+    journal: &mut Journal,
+    party: u32,
+    bits: BitRow,
+    added: u32,
+)
+    requires party { party < length calls.old.items }
+    requires few { slice_index calls.old.items party ≤ length journal.old.entries }
+    requires room { 0 < journal.old.room }
+    ensures calls { calls.new.items ≡ set calls.old.items party (slice_index calls.old.items party + 1) }
+    ensures entries { journal.new.entries ≡ journal.old.entries ++ record { worker = party; call = slice_index calls.old.items party; step = Split bits added } ∷ [] }
+    ensures room { journal.new.room + 1 ≡ journal.old.room }
+{
+    let call = next_call(calls, journal, party);
+    journal.push_split(party, call, bits, added);
+}
+
+// The same for a call whose bits split no class.
+pub(crate) fn note_already(calls: &mut Vec<u64>, journal: &mut Journal, party: u32, bits: BitRow)
+    requires party { party < length calls.old.items }
+    requires few { slice_index calls.old.items party ≤ length journal.old.entries }
+    requires room { 0 < journal.old.room }
+    ensures calls { calls.new.items ≡ set calls.old.items party (slice_index calls.old.items party + 1) }
+    ensures entries { journal.new.entries ≡ journal.old.entries ++ record { worker = party; call = slice_index calls.old.items party; step = Already bits } ∷ [] }
+    ensures room { journal.new.room + 1 ≡ journal.old.room }
+{
+    let call = next_call(calls, journal, party);
+    journal.push_already(party, call, bits);
 }
 
 // Takes the party's offer from it: its pair is open again where the offer has this number. Answers the place from

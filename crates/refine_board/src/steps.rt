@@ -12,7 +12,9 @@ ghost use Rattle.verdict_stamp.specs.Published.{IsStampOf};
 use crate::answers::{Cut, Debt, Offer};
 use crate::board::Board;
 use crate::journal::Step;
-use crate::marks::{LastOffer, Mark, first_marked, note, release, reopen};
+use crate::marks::{
+    LastOffer, Mark, first_marked, note, note_already, note_split, release, reopen,
+};
 use crate::run::Run;
 use class_partition::Needed;
 use std::alloc::AllocError;
@@ -358,14 +360,14 @@ impl<'v, 'p, L: Run> Board<'v, 'p, L> {
         let bits = vector.into_bits();
         if added == 0 {
             *cursor = release(version.number(), marks, offers, *cursor, party);
-            note(calls, journal, party, Step::Already(bits));
+            note_already(calls, journal, party, bits);
             return Cut::Already;
         }
         *current = None;
         *cursor = 0;
         reopen(marks);
         offers[party as usize] = None;
-        note(calls, journal, party, Step::Split(bits, added));
+        note_split(calls, journal, party, bits, added);
         Cut::Split(added)
     }
 

@@ -36,9 +36,9 @@ invariant_of-self g c =
     let after : State = called q (record before { marks = c.release.new.marks.items; offers = c.release.new.offers.items }) in
     let is_after : after ≡ called q (released q before) = rw (c.release.ensures.marks, c.release.ensures.offers, number_is) (ap (called q) (sym (released_is q before))) in
     let is = running_after g.L.Run.pair g.L.Run.k g.L.Run.workers g.L.Run.opening before after i.journal.entries q (Already bits) (inside, refl, (holds, is_after)) may was in (
-      rw (c.note.ensures.calls, c.note.ensures.entries, same) is,
+      rw (c.note_already.ensures.calls, c.note_already.ensures.entries, same) is,
       subst (λ (s : Standing). IsOfRun g.L.Run.pair g.L.Run.k g.L.Run.workers g.L.Run.opening s i.first g.L.Run.list i.versions.now i.current) (sym same) of,
-      rw (c.note.ensures.calls, c.note.ensures.entries, same) (held_after places i.cursor c.release.result i.waiting i.owed.total i.journal.room c.note.new.journal.room g.L.Ledger.parts i.rest.parts before after i.journal.entries (next_entry before q (Already bits)) held c.note.ensures.room (omega (arith, room, c.requires.room))
+      rw (c.note_already.ensures.calls, c.note_already.ensures.entries, same) (held_after places i.cursor c.release.result i.waiting i.owed.total i.journal.room c.note_already.new.journal.room g.L.Ledger.parts i.rest.parts before after i.journal.entries (next_entry before q (Already bits)) held c.note_already.ensures.room (omega (arith, room, c.requires.room))
           (λ m lt open_now. held.passed m (omega (arith, lt, c.release.ensures.cursor)) (open_now.0, c.release.ensures.passed m lt open_now.1)) (omega (arith, c.release.ensures.cursor, held.cursor_in))),
     )
 
@@ -64,7 +64,7 @@ invariant_of-self-2 g c =
     let marks_is : c.reopen.new.marks.items ≡ map lasting i.marks.items = c.reopen.ensures in
     let after : State = called q (cleared q (divided v.classes before)) in
     let is = running_after g.L.Run.pair g.L.Run.k g.L.Run.workers g.L.Run.opening before after i.journal.entries q (Split bits added) (inside, refl, (v.classes, d.split, d.some, d.count, refl)) may was in
-    (rw (c.note-2.ensures.calls, c.note-2.ensures.entries, marks_is, number_is) is, record { pair_is = c.split_by-added.ensures.product ∙ of.pair_is; k_is = c.split_by-added.ensures.k ∙ of.k_is; first_pair = of.first_pair; first_k = of.first_k; opening_is = of.opening_is; list_is = of.list_is; current_is = tt }, rw (c.note-2.ensures.calls, c.note-2.ensures.entries, marks_is, number_is) (held_after places i.cursor 0 i.waiting i.owed.total i.journal.room c.note-2.new.journal.room g.L.Ledger.parts i.rest.parts before after i.journal.entries (next_entry before q (Split bits added)) held c.note-2.ensures.room (omega (arith, room, c.requires.room)) (λ m lt open_now. absurd (omega arith)) (omega arith)))
+    (rw (c.note_split.ensures.calls, c.note_split.ensures.entries, marks_is, number_is) is, record { pair_is = c.split_by-added.ensures.product ∙ of.pair_is; k_is = c.split_by-added.ensures.k ∙ of.k_is; first_pair = of.first_pair; first_k = of.first_k; opening_is = of.opening_is; list_is = of.list_is; current_is = tt }, rw (c.note_split.ensures.calls, c.note_split.ensures.entries, marks_is, number_is) (held_after places i.cursor 0 i.waiting i.owed.total i.journal.room c.note_split.new.journal.room g.L.Ledger.parts i.rest.parts before after i.journal.entries (next_entry before q (Split bits added)) held c.note_split.ensures.room (omega (arith, room, c.requires.room)) (λ m lt open_now. absurd (omega arith)) (omega arith)))
 
 pub returns-clause-step : goal.returns-clause-step
 returns-clause-step g c =
@@ -87,7 +87,7 @@ returns-clause-step g c =
     let number_is : v.number ≡ i.version.number + 1 = c.split_by-added.ensures.number (omega arith) in
     let marks_is : c.reopen.new.marks.items ≡ map lasting i.marks.items = c.reopen.ensures in
     let after : State = called q (cleared q (divided v.classes before)) in
-    rw (← c.self.view_is, ← bits_is) ((inside, refl, (v.classes, d.split, d.some, d.count, rw (c.note-2.ensures.calls, marks_is, number_is) refl)), c.note-2.ensures.entries)
+    rw (← c.self.view_is, ← bits_is) ((inside, refl, (v.classes, d.split, d.some, d.count, rw (c.note_split.ensures.calls, marks_is, number_is) refl)), c.note_split.ensures.entries)
 
 pub returns-clause-stays : goal.returns-clause-stays
 returns-clause-stays g c of =
