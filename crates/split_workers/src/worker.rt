@@ -17,13 +17,18 @@ use std::sync::ledger::Ledger;
 use verdict_stamp::{Halt, Proof};
 use work_desk::{Asked, Caller, Seat, Separated};
 
-// So many vectors a worker holds at most. Each splits the classes for all, so one that holds many has itself and others prove pairs
-// in vain, and finds pairs apart by rows that it holds already.
+// So many vectors a worker holds at most, where places are few. Each splits the classes for all, so one that holds many has itself and
+// others prove pairs in vain, and finds pairs apart by rows that it holds already.
 const MOST: u64 = 64;
+
+// And one for each so many places, where that is more: each time that vectors are handed in, a version of all places is published,
+// which stays, and pairs of all places are open again.
+const EACH: u64 = 2048;
 
 // How many vectors of so many places a worker holds at most: no more than a quarter of a gigabyte of them.
 fn most_of(places: u32) -> usize {
-    MOST.min((1u64 << 31) / (places as u64 + 1)) as usize
+    let places = places as u64;
+    MOST.max(places / EACH).min((1u64 << 31) / (places + 1)) as usize
 }
 
 /// A worker, with its place at the table, and the offers that it holds: pairs that it found apart, each with a vector.
