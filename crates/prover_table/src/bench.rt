@@ -5,7 +5,7 @@ ghost use Rattle.and_graph.specs.Askers.{IsHalted, IsTaken};
 ghost use Rattle.circ_model.specs.Meaning.{places_of};
 ghost use Rattle.class_partition.specs.Classes.{IsNeeded, least_of};
 ghost use Rattle.boxcar.specs.Table.{Shows};
-ghost use Rattle.verdict_stamp.specs.Proofs.{IsSettled};
+ghost use Rattle.verdict_stamp.specs.Proofs.{IsSettled, SplitsSome};
 ghost use Rattle.prover_table.specs.Tables.{IsBenchOf, IsKnownFor, IsMemoryFor};
 
 use crate::lent::Lent;
@@ -13,7 +13,9 @@ use class_partition::Needed;
 use refine_board::Run;
 use std::alloc::{AllocError, Global};
 use std::marker::Model;
-use verdict_stamp::{Asker, Halt, Known, Proof, Prover, ProverMemory, Stamp, Version, Versions};
+use verdict_stamp::{
+    Asker, Halt, Known, Proof, Prover, ProverMemory, Stamp, Vector, Version, Versions,
+};
 
 /// The frames of a version, and its stamp.
 #[derive(Drop)]
@@ -100,6 +102,21 @@ impl<'v, 'p> Bench<'v, 'p> {
     {
         let Bench { prover, .. } = self;
         prover.into_memory()
+    }
+
+    /// A vector of a row that waited when the version came, where there is one.
+    pub(crate) fn next_waiting(&mut self, alloc: Global) -> Result<Option<Vector<'p>>, AllocError>
+        ensures kept { self.new ≡ self.old }
+        ensures vector { IfOk result (λ v. IfSome v (SplitsSome self.old.value)) }
+    {
+        self.prover.next_waiting(alloc)
+    }
+
+    /// Whether there are more such rows. A hint.
+    pub(crate) fn has_waiting(&mut self) -> bool
+        ensures { self.new ≡ self.old }
+    {
+        self.prover.has_waiting()
     }
 
     /// Settles a pair of its version: unasked, where the classes of an earlier k are known and pair it.

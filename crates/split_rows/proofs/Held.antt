@@ -5,7 +5,7 @@ use Rattle.circ_model.specs.Correspondence.{MaySplit, Separates}
 use Rattle.class_partition.specs.Classes.{Classes, KeepsGreatest, needed}
 use Rattle.sim_words.specs.Lanes.{lane}
 use Rattle.step_lanes.specs.Rows.{IsFirstApart, MaskedRows}
-use Rattle.split_rows.specs.Rows.{AreOf, IsRowApart}
+use Rattle.split_rows.specs.Rows.{AreOf, IsRowApart, SeparatesSome}
 
 -- by equals
 pub keeps_by : (p q : Pair) (j k : ℕ) (c d : Classes) → p ≡ q → j ≡ k → c ≡ d → KeepsGreatest q k d → KeepsGreatest p j c
@@ -35,3 +35,7 @@ pub row_of : (pair : Pair) (k : ℕ) (classes : Classes) (m : ℕ) (block : Mask
 row_of pair k classes m block found lane row is ef has =
     subst (λ (p : Pair). IsRowApart p k classes m row) is.0
     (subst (λ (n : ℕ). IsRowApart block.pair n classes m row) is.1 (subst (λ (o : Option (ℕ × List Bool)). IfSome o (λ f. IsRowApart block.pair block.k classes m f.1)) ef has))
+
+-- the row of a pair that was sought is the row of some pair
+pub of_some : (pair : Pair) (k : ℕ) (classes : Classes) (m : ℕ) (found : Option (List Bool)) (row : List Bool) → m < places_of pair → found ≡ Some row → IfSome found (IsRowApart pair k classes m) → SeparatesSome pair k classes row
+of_some pair k classes m found row lt ef has = record { member = m; within = lt; apart = subst (λ (o : Option (List Bool)). IfSome o (IsRowApart pair k classes m)) ef has }

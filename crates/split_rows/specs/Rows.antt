@@ -18,3 +18,9 @@ pub record IsRowApart (pair : Pair) (k : ℕ) (classes : Classes) (m : ℕ) (bit
 -- frames below a bound, each with a place
 abbrev pub AllBroken : ℕ → ℕ → List (ℕ × ℕ) → Type 0
 AllBroken frames places broken = All (λ (p : ℕ × ℕ). (p.0 < frames) × (p.1 < places)) broken
+
+-- a row that may split, and separates some needed pair
+pub record SeparatesSome (pair : Pair) (k : ℕ) (classes : Classes) (bits : List Bool) : Type 0 where
+  pub member : ℕ
+  pub within : member < places_of pair
+  pub apart : IsRowApart pair k classes member bits

@@ -8,6 +8,7 @@ mod ahead;
 mod left;
 mod model;
 mod rows;
+mod waiting;
 mod words;
 
 pub use rows::SplitRows;

@@ -34,6 +34,8 @@ pub struct SplitRows<'p> {
     pub(crate) reached: Vec<u64>,
     pub(crate) steered: Vec<u64>,
     pub(crate) is_ahead: bool,
+    // from which place on rows are looked for that wait: a hint
+    pub(crate) next: u32,
 }
 
 impl<'p> Model for SplitRows<'p> {
@@ -105,6 +107,7 @@ impl<'p> SplitRows<'p> {
             reached: Vec::new(alloc),
             steered: Vec::new(alloc),
             is_ahead: false,
+            next: 0,
         }
     }
 
@@ -115,6 +118,7 @@ impl<'p> SplitRows<'p> {
         let left = Left::of(alloc, classes)?;
         self.left = Some(left);
         self.given.clear();
+        self.next = 0;
         let mut blocks = mem::replace(&mut self.blocks, Vec::new(alloc));
         while let Some(block) = blocks.pop() {
             self.take(alloc, block)?;
@@ -233,7 +237,7 @@ impl<'p> SplitRows<'p> {
     }
 
     // Whether the rows seem to separate a pair.
-    fn is_apart(&self, pair: Needed) -> bool {
+    pub(crate) fn is_apart(&self, pair: Needed) -> bool {
         match &self.left {
             Some(left) => left.is_apart(pair.rep, pair.member),
             None => false,
@@ -241,7 +245,7 @@ impl<'p> SplitRows<'p> {
     }
 
     // The lanes of a block whose rows weren't answered for these classes.
-    fn new_lanes(&self, block: usize) -> u64 {
+    pub(crate) fn new_lanes(&self, block: usize) -> u64 {
         if block < self.given.len() {
             !self.given[block]
         } else {

@@ -26,6 +26,7 @@ pub(crate) struct Place<'r, 'v, 'p, L: Run> {
     table: &'r Bell<Table<'v, 'p, L>>,
     asker: Asker,
     turn: Option<Locked<'r, Table<'v, 'p, L>>>,
+    due: bool,
 }
 
 // An asker of one of so many workers: one that is alone has each question answered at once.
@@ -48,6 +49,7 @@ impl<'r, 'v, 'p, L: Run> Place<'r, 'v, 'p, L> {
             table: &room.table,
             asker: asker_of(alloc, room.lent.workers)?,
             turn: None,
+            due: false,
         })
     }
 
@@ -86,8 +88,14 @@ impl<'r, 'v, 'p, L: Run> Place<'r, 'v, 'p, L> {
         let found = table
             .value()
             .settle(self.alloc, self.lent, &mut self.asker, offer);
+        self.due = table.value().is_due();
         self.turn = Some(table);
         found
+    }
+
+    /// Whether what the worker holds is better handed in at once.
+    pub(crate) fn is_due(&self) -> bool {
+        self.due
     }
 
     /// A worker that is settling a lower pair, and that pair's member, where the question that is put aside rests on it.

@@ -31,7 +31,7 @@ fn most_of(places: u32) -> usize {
     MOST.max(places / EACH).min((1u64 << 31) / (places + 1)) as usize
 }
 
-/// A worker, with its place at the table, and the offers that it holds: pairs that it found apart, each with a vector.
+/// A worker, with its place at the table, and the offers that it holds, each with a vector that answers it.
 #[derive(Drop)]
 pub(crate) struct Worker<'r, 'v, 'p, L: Run, E: Ledger, O: Ledger, G: Gate> {
     desk: Caller<'r, 'v, 'p, L, E, O, G>,
@@ -90,7 +90,7 @@ impl<'r, 'v, 'p, L: Run, E: Ledger, O: Ledger, G: Gate> Worker<'r, 'v, 'p, L, E,
     }
 
     fn is_full(&self) -> bool {
-        self.pocket.len() > self.most
+        self.pocket.len() > self.most || (self.place.is_due() && self.is_holding())
     }
 
     // Waits until there is something to do.

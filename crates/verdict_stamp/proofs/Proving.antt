@@ -17,10 +17,10 @@ use Rattle.verdict_stamp.specs.declared.prover.Proof.{Proof}
 use Rattle.verdict_stamp.specs.declared.prover.Proof.TheVariants.{Holds, Splits}
 use Rattle.verdict_stamp.specs.declared.used.Used.TheVariants.{Version, Known}
 use Rattle.pair_sweep.specs.Sweeps.{Extent}
-use Rattle.split_rows.specs.Rows.{IsRowApart}
+use Rattle.split_rows.specs.Rows.{IsRowApart, SeparatesSome}
 use Rattle.frame_graph.specs.Inductions.{BasePasses, StepPasses}
 use Rattle.frame_graph.proofs.Staying.{both_halves}
-use Rattle.verdict_stamp.specs.Proofs.{IsApart, IsProof, IsSettled, IsSplitOf}
+use Rattle.verdict_stamp.specs.Proofs.{IsApart, IsProof, IsSettled, IsSplitOf, SplitsSome}
 use Rattle.verdict_stamp.specs.Versions.{Standing, IsVersion, Split, IsPassed, base_of, step_of, base_question, step_question, extent_of, induction_of}
 
 -- two bits are equal or complements, and not both
@@ -134,6 +134,17 @@ apart_of v w m x bits ev ex apart may = subst (λ (z : Standing). IsApart z m x)
 
 pub apart_by : (v w : Standing) (m : ℕ) (o : Option Split) (x : Split) → v ≡ w → o ≡ Some x → IfSome o (IsApart v m) → IsApart w m x
 apart_by v w m o x ev eo has = subst (λ (z : Standing). IsApart z m x) ev (subst (λ (y : Option Split). IfSome y (IsApart v m)) eo has)
+
+-- a row that waits, for the pair, k and classes of a version
+pub waits : (v : Standing) (e : Extent) (classes : Classes) (o : Option (List Bool)) (row : List Bool) → e ≡ extent_of v → classes ≡ v.classes → o ≡ Some row
+    → IfSome o (SeparatesSome e.pair e.k classes) → SeparatesSome v.pair v.k v.classes row
+waits v e classes o row ee ec eo has =
+    subst (λ (x : Extent). SeparatesSome x.pair x.k v.classes row) ee
+    (subst (λ (z : Classes). SeparatesSome e.pair e.k z row) ec (subst (λ (x : Option (List Bool)). IfSome x (SeparatesSome e.pair e.k classes)) eo has))
+
+-- and its vector
+pub splits_some : (v w : Standing) (x : Split) (bits : List Bool) → v ≡ w → x ≡ record { pair = v.pair; k = v.k; bits = bits } → SeparatesSome v.pair v.k v.classes bits → SplitsSome w x
+splits_some v w x bits ev ex is = subst (λ (z : Standing). SplitsSome z x) ev (subst (SplitsSome v) (sym ex) (record { pair_is = refl; k_is = refl; separates = is }))
 
 -- an exact answer settles the pair
 pub settles : (v w : Standing) (m : ℕ) (p : Proof) → v ≡ w → IsProof v m p → IsSettled w m p

@@ -3,6 +3,7 @@ use Rattle.std.specs.Prelude.{◌≡◌, ℕ, List, length, Bool}
 use Rattle.circ_model.specs.Meaning.{places_of}
 use Rattle.circ_model.specs.Correspondence.{MaySplit, Separates}
 use Rattle.class_partition.specs.Classes.{Passes, needed}
+use Rattle.split_rows.specs.Rows.{SeparatesSome}
 use Rattle.verdict_stamp.specs.declared.prover.Proof.{Proof}
 use Rattle.verdict_stamp.specs.declared.used.Used.TheVariants.{Version}
 use Rattle.verdict_stamp.specs.declared.prover.Proof.TheVariants.{Holds, Splits}
@@ -24,6 +25,12 @@ pub record IsSplitOf (v : Standing) (m : ℕ) (bits : List Bool) : Type 0 where
 -- a vector of the same product and k that separates a needed pair
 abbrev pub IsApart : Standing → ℕ → Split → Type 0
 IsApart v m x = (x.pair ≡ v.pair) × (x.k ≡ v.k) × Separates x.bits (needed v.classes m) × MaySplit v.pair v.k x.bits
+
+-- a vector of the same product and k that separates some needed pair
+pub record SplitsSome (v : Standing) (x : Split) : Type 0 where
+  pub pair_is : x.pair ≡ v.pair
+  pub k_is : x.k ≡ v.k
+  pub separates : SeparatesSome v.pair v.k v.classes x.bits
 
 -- a pair is settled where it passes, or some vector separates it
 abbrev pub IsSettled : Standing → ℕ → Proof → Type 0

@@ -10,7 +10,7 @@ ghost use Rattle.frame_questions.specs.Found.{IsFound};
 ghost use Rattle.verdict_stamp.specs.Versions.{IsOf, IsVersion, base_of, step_of, base_question, step_question, induction_of};
 ghost use Rattle.split_rows.specs.Rows.{AllBroken};
 ghost use Rattle.verdict_stamp.specs.Known.{IsBelow};
-ghost use Rattle.verdict_stamp.specs.Proofs.{IsApart, IsProof, IsSettled, IsSplitOf, IsToldBy};
+ghost use Rattle.verdict_stamp.specs.Proofs.{IsApart, IsProof, IsSettled, IsSplitOf, IsToldBy, SplitsSome};
 
 use crate::known::Known;
 use crate::vector::Vector;
@@ -339,6 +339,28 @@ impl<'v, 'p> Prover<'v, 'p> {
             return Ok(None);
         };
         Ok(Some(vector_under(version, row)))
+    }
+
+    /// A vector of a row that was held when the version came, splits it, and wasn't answered under it yet, where there is one: it
+    /// separates some needed pair. No pair is settled while there are such rows.
+    pub fn next_waiting(&mut self, alloc: Global) -> Result<Option<Vector<'p>>, AllocError>
+        ensures kept { self.new ≡ self.old }
+        ensures vector { IfOk result (λ v. IfSome v (SplitsSome self.old)) }
+    {
+        let version = self.current;
+        self.rows.run_ahead(alloc)?;
+        let Some(row) = self.rows.next_waiting(alloc, version.classes())? else {
+            return Ok(None);
+        };
+        Ok(Some(vector_under(version, row)))
+    }
+
+    /// Whether there are more such rows. A hint.
+    pub fn has_waiting(&mut self) -> bool
+        ensures { self.new ≡ self.old }
+    {
+        let version = self.current;
+        self.rows.has_waiting(version.classes())
     }
 
     // A vector that has the pair apart in one of the first k frames of a run, or none: by the sweep, and else over whole frames.

@@ -1,4 +1,4 @@
-//! A pair that was found apart.
+//! An offer that is answered by a vector.
 ghost use Rattle.std.specs.Prelude.{◌≡◌};
 ghost use Rattle.refine_board.specs.Running.{IsOf};
 
@@ -6,7 +6,7 @@ use refine_board::{Offer, Run};
 use std::marker::Model;
 use verdict_stamp::Vector;
 
-/// An offer, and a vector that separates its pair.
+/// An offer, and a vector of its run: one that separates its pair, or that of a row that waited when its version came.
 #[derive(Drop)]
 pub struct Separated<'p, L: Run> {
     pub(crate) offer: Offer<'p, L>,
@@ -24,7 +24,7 @@ impl<'p, L: Run> Model for Separated<'p, L> {
 }
 
 impl<'p, L: Run> Separated<'p, L> {
-    /// An offered pair, and a vector that separates it.
+    /// An offer, and the vector that answers it.
     pub fn new(offer: Offer<'p, L>, vector: Vector<'p>) -> Separated<'p, L>
         requires { IsOf L.pair L.k vector }
         ensures { result ≡ offer.entry }
