@@ -1,4 +1,4 @@
-//! Rows that simulation found: each is answered before one is answered again, and those that wait are answered once.
+//! Rows that simulation found: each is answered before one is answered again.
 ghost use Rattle.std.specs.Prelude.{◌≡◌, ◌<◌, length};
 ghost use Rattle.circ_model.specs.Meaning.{places_of};
 ghost use Rattle.class_partition.specs.Classes.{least_of};
@@ -67,57 +67,6 @@ fn numbers_of(alloc: Global, product: &Product, classes: &Classes) -> Result<[u6
     rows.turn_to(alloc, classes)?;
     rows.run_ahead(alloc)?;
     two_numbers(alloc, &mut rows, classes, pair)
-}
-
-// How many rows wait that simulation from reset leaves of a version; none where one is answered twice, or more wait than that.
-fn waiting_of(
-    alloc: Global,
-    rows: &mut SplitRows<'_>,
-    classes: &Classes,
-) -> Result<usize, AllocError>
-    requires places { length classes.now.least ≡ places_of rows.old.pair }
-{
-    let mut seen: Vec<u64> = Vec::new(alloc);
-    for _ in 0..64 {
-        let waits = rows.has_waiting(classes);
-        let Some(row) = rows.next_waiting(alloc, classes)? else {
-            return Ok(if waits { 0 } else { seen.len() });
-        };
-        let number = number_of(&row);
-        if !waits || seen.as_slice().contains(&number) {
-            return Ok(0);
-        }
-        seen.push(number)?;
-    }
-    Ok(0)
-}
-
-// The same of a pair.
-fn waiting_of_pair(
-    alloc: Global,
-    product: &Product,
-    classes: &Classes,
-) -> Result<usize, AllocError> {
-    if classes.len() != product.len() {
-        return Ok(0);
-    }
-    let mut rows = SplitRows::new(alloc, product, 1);
-    rows.turn_to(alloc, classes)?;
-    rows.run_ahead(alloc)?;
-    waiting_of(alloc, &mut rows, classes)
-}
-
-#[test]
-fn rows_that_wait_are_answered_once(rt: HostRuntime) -> Result<(), Fail> {
-    let alloc = rt.alloc();
-    match pair_of(alloc, PRODUCT_OF_LATCHES, LATCH_OF_PRODUCT) {
-        Ok(product) => {
-            let version = Version::first(alloc, &product, 1)?;
-            assert!(rt; waiting_of_pair(alloc, &product, version.classes())? > 1);
-        }
-        Err(_) => assert!(rt; false),
-    }
-    Ok(())
 }
 
 #[test]
