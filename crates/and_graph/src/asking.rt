@@ -274,6 +274,7 @@ impl Asker {
         let cone = &self.cone;
         lemmas.effort.note(answer, self.hard.saturating_mul(4));
         lemmas.toil.note(answer, MOST_LINES);
+        lemmas.work.note(cone.members.len(), answer);
         self.solver
             .leave(&mut lemmas.activity, cone.members.as_slice())?;
         match answer {

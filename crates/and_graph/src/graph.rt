@@ -234,6 +234,11 @@ impl Graph {
         asker.rests_on(self.nodes.as_slice(), x.var(), y.var())
     }
 
+    /// How much the questions took that were answered so far: the nodes of their cones, and the lines of their refutations. A hint.
+    pub fn work(&self) -> u64 {
+        self.lemmas.work.total()
+    }
+
     /// Takes in the answer to the question that the asker had put aside, of this graph or of an earlier state of it: where it says
     /// that two literals are equal, and what it rests on is found to stand, they are merged. It errs for want of memory alone.
     pub fn take_answer(&mut self, alloc: Global, asker: &mut Asker) -> Result<(), AllocError>

@@ -10,7 +10,7 @@ ghost use Rattle.and_graph.specs.Cones.{AreWithin, Shows};
 ghost use Rattle.and_graph.specs.Lemmas.{AreLemmas, ArePureHints, ClauseHolds, GivenHold, IsPureHint, PureHold};
 
 use crate::activity::Activity;
-use crate::effort::Effort;
+use crate::effort::{Effort, Work};
 use crate::node::Node;
 use circ_model::Lit;
 use cnf_store::{Arena, Cnf};
@@ -41,6 +41,7 @@ pub(crate) struct Lemmas {
     pub effort: Effort,
     // how hard questions over whole cones were, large or not
     pub toil: Effort,
+    pub work: Work,
 }
 
 // The node's literal for which a literal of a member stands.
@@ -109,6 +110,7 @@ impl Lemmas {
             activity: Activity::new(alloc),
             effort: Effort::new(),
             toil: Effort::new(),
+            work: Work::new(),
         }
     }
 

@@ -115,6 +115,7 @@ impl Cone {
         ensures equal { IfOk result (λ found. IfNone found (AreEqual nodes.now posed.x posed.y)) }
     {
         let members = &self.members;
+        lemmas.work.note(members.len(), answer);
         if self.frontier.is_empty() {
             lemmas.toil.note(answer, MOST_LINES);
         }

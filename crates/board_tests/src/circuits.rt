@@ -31,6 +31,16 @@ pub(crate) const LATE_DELAY: &str =
 // A latch that stays at 0, beside an input.
 pub(crate) const STUCK: &str = "aag 2 1 1 1 0\n2\n4 4\n4\n";
 
+// The product of twenty inputs, and twenty inputs beside the constant: they differ on one row of a million.
+pub(crate) const RARE: &str =
+    "aag 39 20 0 1 19\n2\n4\n6\n8\n10\n12\n14\n16\n18\n20\n22\n24\n26\n28\n30\n32\n34\n36\n38\n40\n\
+    78\n42 2 4\n44 42 6\n46 44 8\n48 46 10\n50 48 12\n52 50 14\n54 52 16\n56 54 18\n58 56 20\n\
+    60 58 22\n62 60 24\n64 62 26\n66 64 28\n68 66 30\n70 68 32\n72 70 34\n74 72 36\n76 74 38\n\
+    78 76 40\n";
+
+pub(crate) const NEVER: &str =
+    "aag 20 20 0 1 0\n2\n4\n6\n8\n10\n12\n14\n16\n18\n20\n22\n24\n26\n28\n30\n32\n34\n36\n38\n40\n0\n";
+
 pub(crate) fn pair_of(alloc: Global, left: &str, right: &str) -> Result<Product, PairFault> {
     match (
         read_netlist(alloc, left.as_bytes()),

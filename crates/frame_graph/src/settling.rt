@@ -5,7 +5,7 @@ ghost use Rattle.and_graph.specs.Askers.{IsHalted};
 ghost use Rattle.circ_model.specs.Correspondence.{IsLiteral};
 ghost use Rattle.circ_model.specs.Meaning.{places_of};
 ghost use Rattle.and_graph.specs.Graphs.{AreEqual};
-ghost use Rattle.frame_graph.specs.Inductions.{BasePasses, LiteralsHoldInFrame, StepPasses};
+ghost use Rattle.frame_graph.specs.Inductions.{BasePasses, HoldsInFrame, LiteralsHoldInFrame, StepPasses};
 ghost use Rattle.frame_graph.specs.Laws.{IsMerged};
 ghost use Rattle.frame_graph.specs.Maps.{IsResetMap, IsStepMap, induction_of};
 
@@ -102,6 +102,31 @@ impl<'p> FrameMap<'p> {
         settle(alloc, graph, asker, left, right)
     }
 
+    /// Whether a needed pair holds in one frame from reset: none if so, on each run; or else values of leaves under which it differs
+    /// there, a hint that is to be simulated. What is found equal is merged. The question may be put aside.
+    pub fn settle_base_in(
+        &self,
+        alloc: Global,
+        graph: &mut Graph,
+        asker: &mut Asker,
+        classes: &Classes,
+        frame: u32,
+        member: u32,
+    ) -> Result<Option<Pattern>, Halt>
+        requires place { member < places_of self.now.leaves.pair }
+        requires classes { length classes.now.least ≡ places_of self.now.leaves.pair }
+        requires frame { frame < self.now.depth }
+        requires map { IsResetMap graph.old self.now }
+        ensures merged { IsMerged graph.old graph.new }
+        ensures passes { IfOk result (λ found. IfNone found (HoldsInFrame (induction_of self.now classes.now) frame member)) }
+        ensures most { asker.new.most ≡ asker.old.most }
+        ensures halt { IfErr result (IsHalted asker.old asker.new) }
+    {
+        let _nodes = graph.len();
+        let (least, other) = self.base_pair(classes, frame, member);
+        settle_or_pose(alloc, graph, asker, least, other)
+    }
+
     /// Whether a needed pair holds in each frame from reset: none if so, on each run; or else values of leaves under which it
     /// differs in some frame, a hint that is to be simulated. What is found equal is merged. A question may be put aside.
     pub fn settle_base(
@@ -121,9 +146,7 @@ impl<'p> FrameMap<'p> {
         ensures halt { IfErr result (IsHalted asker.old asker.new) }
     {
         for frame in 0..self.depth() {
-            let _nodes = graph.len();
-            let (least, other) = self.base_pair(classes, frame, member);
-            match settle_or_pose(alloc, graph, asker, least, other)? {
+            match self.settle_base_in(alloc, graph, asker, classes, frame, member)? {
                 Some(found) => return Ok(Some(found)),
                 None => {}
             }

@@ -2,7 +2,7 @@
 ghost use Rattle.std.specs.Prelude.{◌≡◌, ◌<◌, ◌≤◌, ◌+◌, ◌*◌, ◌/◌, ℕ, IfErr, IfNone, IfOk, IsTrue, OnOk, is_some, length, true};
 ghost use Rattle.and_graph.specs.Askers.{IsHalted, IsTaken};
 ghost use Rattle.circ_model.specs.Meaning.{places_of};
-ghost use Rattle.frame_graph.specs.Inductions.{BasePasses, StepPasses};
+ghost use Rattle.frame_graph.specs.Inductions.{BasePasses, HoldsInFrame, StepPasses};
 ghost use Rattle.pair_sweep.specs.Sweeps.{AreOwedOf, IsSweep};
 
 use crate::free_bit::{FreeBit, decoded};
@@ -180,6 +180,26 @@ impl<'v, 'p> Sweep<'v, 'p> {
         Ok(decoded(alloc, frames, found)?)
     }
 
+    /// The same of one of these frames.
+    pub fn base_difference_in(
+        &mut self,
+        alloc: Global,
+        asker: &mut Asker,
+        frame: u32,
+        member: u32,
+    ) -> Result<Option<Vec<FreeBit>>, Halt>
+        requires place { member < places_of self.old.pair }
+        requires frame { frame < self.old.k }
+        ensures kept { self.new ≡ self.old }
+        ensures passes { IfOk result (λ found. IfNone found (HoldsInFrame self.old frame member)) }
+        ensures most { asker.new.most ≡ asker.old.most }
+        ensures halt { IfErr result (IsHalted asker.old asker.new) }
+    {
+        let map = &self.resets;
+        let found = map.settle_base_in(alloc, &mut self.graph, asker, self.classes, frame, member)?;
+        Ok(decoded(alloc, map, found)?)
+    }
+
     /// Where it seems to differ after k frames in which the classes hold: none, if it is found equal there. It asks the solver of
     /// what the graph doesn't show. Free bits with values are a hint: they may be those of a path on which the classes don't hold,
     /// since a member that stands for its class's least place is not asked to be equal to it. An `Err` is want of memory, or
@@ -243,6 +263,11 @@ impl<'v, 'p> Sweep<'v, 'p> {
         }
         let (least, other) = self.steps.step_pair(self.classes, member);
         self.graph.rests_on(asker, least, other)
+    }
+
+    /// How much the questions took that the graph's askers were asked so far. A hint.
+    pub fn work(&self) -> u64 {
+        self.graph.work()
     }
 
     /// Takes in the answer to the question that the asker had put aside. It errs for want of memory alone.

@@ -104,19 +104,25 @@ impl<'v, 'p> Bench<'v, 'p> {
         prover.into_memory()
     }
 
-    /// A vector of a row that waited when the version came, where there is one.
-    pub(crate) fn next_waiting(&mut self, alloc: Global) -> Result<Option<Vector<'p>>, AllocError>
+    /// A vector of a row that waits, where there is one.
+    pub(crate) fn next_waiting(
+        &mut self,
+        alloc: Global,
+        asker: &mut Asker,
+    ) -> Result<Option<Vector<'p>>, Halt>
         ensures kept { self.new ≡ self.old }
         ensures vector { IfOk result (λ v. IfSome v (SplitsSome self.old.value)) }
+        ensures most { asker.new.most ≡ asker.old.most }
+        ensures halt { IfErr result (IsHalted asker.old asker.new) }
     {
-        self.prover.next_waiting(alloc)
+        self.prover.next_waiting(alloc, asker)
     }
 
-    /// Whether there are more such rows. A hint.
-    pub(crate) fn has_waiting(&mut self) -> bool
+    /// Whether what was found apart is better handed in at once. A hint.
+    pub(crate) fn is_due(&mut self) -> bool
         ensures { self.new ≡ self.old }
     {
-        self.prover.has_waiting()
+        self.prover.is_due()
     }
 
     /// Settles a pair of its version: unasked, where the classes of an earlier k are known and pair it.

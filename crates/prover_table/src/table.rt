@@ -65,9 +65,9 @@ impl<'v, 'p, L: Run> Table<'v, 'p, L> {
         memory_of::<L>(bench).or(memory)
     }
 
-    /// What comes of an offered pair at the bench, which is turned to the offer's version. While rows wait that were held when the version
-    /// came, each offer is answered by the vector of one, which may separate other pairs than this one. A question over a large cone is put
-    /// aside in the worker's asker, and that the pair isn't settled is noted.
+    /// What comes of an offered pair at the bench, which is turned to the offer's version. While rows wait, each offer is answered by the
+    /// vector of one, which may separate other pairs than this one. A question over a large cone is put aside in the worker's asker,
+    /// and that the pair isn't settled is noted.
     pub fn settle(
         &mut self,
         alloc: Global,
@@ -84,14 +84,14 @@ impl<'v, 'p, L: Run> Table<'v, 'p, L> {
         self.note(offer.party(), None);
         let bench = self.bench.take();
         let mut at = bench_for(alloc, lent, bench, &mut self.memory, offer.stamp())?;
-        let found = find_at(alloc, lent, &mut at, asker, offer, &mut self.due);
+        let found = find_at(alloc, lent, &mut at, asker, offer);
+        self.due = at.is_due();
         drop(mem::replace(&mut self.bench, Some(at)));
         self.note(offer.party(), unsettled(offer, &found));
         found
     }
 
-    /// Whether the last offer was answered by the last row that waited when its version came: what workers hold is then better handed
-    /// in at once, since nothing was asked under that version. A hint.
+    /// Whether what workers hold was better handed in at once when the last offer was settled. A hint.
     pub fn is_due(&self) -> bool {
         self.due
     }
@@ -198,8 +198,7 @@ fn settle_at<'v, 'p, L: Run>(
     bench.settle(alloc, asker, offer.pair(), lent.known)
 }
 
-// What comes of an offered pair at a bench of the offer's version: the vector of a row that waits, where there is one. Says whether
-// that was the last such row.
+// What comes of an offered pair at a bench of the offer's version: the vector of a row that waits, where there is one.
 #[tactic(auto, using(crate::proofs::Finds::splits_for))]
 fn find_at<'v, 'p, L: Run>(
     alloc: Global,
@@ -207,7 +206,6 @@ fn find_at<'v, 'p, L: Run>(
     bench: &mut Bench<'v, 'p>,
     asker: &mut Asker,
     offer: &Offer<'p, L>,
-    due: &mut bool,
 ) -> Result<Proof<'v, 'p>, Halt>
     requires version { bench.old.value ≡ offer.now.stamp.value }
     ensures bench { bench.new ≡ bench.old }
@@ -215,10 +213,8 @@ fn find_at<'v, 'p, L: Run>(
     ensures most { asker.new.most ≡ asker.old.most }
     ensures halt { IfErr result (IsHalted asker.old asker.new) }
 {
-    *due = false;
     let _owed = offer.stamp();
-    if let Some(vector) = bench.next_waiting(alloc)? {
-        *due = !bench.has_waiting();
+    if let Some(vector) = bench.next_waiting(alloc, asker)? {
         return Ok(Proof::Splits(vector));
     }
     settle_at(alloc, lent, bench, asker, offer)

@@ -120,7 +120,6 @@ impl<'p> SplitRows<'p> {
             if t == 0 {
                 self.reached = latch_words(alloc, product, rows.words())?;
             }
-            self.steered.extend_from_slice(inputs.as_slice())?;
             self.take(alloc, rows)?;
         }
         Ok(())

@@ -5,6 +5,7 @@
 #![tactic(auto)]
 
 mod ahead;
+mod from_reset;
 mod left;
 mod model;
 mod rows;

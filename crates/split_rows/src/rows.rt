@@ -30,9 +30,8 @@ pub struct SplitRows<'p> {
     // what the blocks leave of the classes that are refined: a hint
     pub(crate) left: Option<Left>,
     pub(crate) stimulus: Stimulus,
-    // a state of each run, and the inputs from there on, from which models are filled in
+    // a state of each run, from which models are filled in
     pub(crate) reached: Vec<u64>,
-    pub(crate) steered: Vec<u64>,
     pub(crate) is_ahead: bool,
     // from which place on rows are looked for that wait: a hint
     pub(crate) next: u32,
@@ -105,7 +104,6 @@ impl<'p> SplitRows<'p> {
             left: None,
             stimulus: Stimulus::new(2),
             reached: Vec::new(alloc),
-            steered: Vec::new(alloc),
             is_ahead: false,
             next: 0,
         }
@@ -236,8 +234,8 @@ impl<'p> SplitRows<'p> {
         Ok(())
     }
 
-    // Whether the rows seem to separate a pair.
-    pub(crate) fn is_apart(&self, pair: Needed) -> bool {
+    /// Whether the rows seem to separate a pair. A hint.
+    pub fn is_apart(&self, pair: Needed) -> bool {
         match &self.left {
             Some(left) => left.is_apart(pair.rep, pair.member),
             None => false,

@@ -1,6 +1,6 @@
-//! Rows that wait when classes come: those that are held by then and split them. They are answered before anything is asked, so that no
-//! question is put under classes that are known to be too coarse: such a question is harder, its models break the classes, and what
-//! it shows is asked again under the next ones.
+//! Rows that wait: those that split the classes, are held when these come, or when it is said that more wait, and weren't answered
+//! for them yet. They are answered before anything is asked, so that no question is put under classes that are known to be too
+//! coarse: such a question is harder, its models break the classes, and what it shows is asked again under the next ones.
 ghost use Rattle.std.specs.Prelude.{◌≡◌, ◌<◌, IfOk, IfSome, length};
 ghost use Rattle.circ_model.specs.Meaning.{places_of};
 ghost use Rattle.class_partition.specs.Classes.{least_of};
@@ -58,6 +58,13 @@ impl<'p> SplitRows<'p> {
             None => u32::MAX,
         };
         found
+    }
+
+    /// Has rows wait that came since, those that split these classes and weren't answered for them.
+    pub fn wait_again(&mut self)
+        ensures { self.new ≡ self.old }
+    {
+        self.next = 0;
     }
 
     /// Whether some row waits. A hint.

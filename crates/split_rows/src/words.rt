@@ -6,7 +6,7 @@ use circ_model::Lit;
 use class_partition::Classes;
 use frame_graph::Leaf;
 use pair_sweep::FreeBit;
-use product_machine::{Cell, Product};
+use product_machine::{Cell, Product, Start};
 use std::alloc::{AllocError, Global};
 
 // So many places that break the classes are told of a model at most.
@@ -57,6 +57,24 @@ pub(crate) fn latch_words(
         }
     }
     Ok(found)
+}
+
+// Takes the words of a reset's free latches from those of a state.
+pub(crate) fn free_among(product: &Product, start: &[u64], free: &mut [u64])
+    ensures { length free.new ≡ length free.old }
+{
+    let cells = product.cells();
+    let mut held: usize = 0;
+    let mut counted: usize = 0;
+    for p in 0..cells.len() {
+        if let Cell::Held(first, _) = cells[p] {
+            if first == Start::Free && counted < free.len() {
+                free[counted] = word_at(start, held);
+                counted += 1;
+            }
+            held = held.saturating_add(1);
+        }
+    }
 }
 
 // Has half of the lanes stand in states that were reached.

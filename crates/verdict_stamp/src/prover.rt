@@ -28,6 +28,16 @@ use std::marker::Model;
 // So many models of a pair are run on at most.
 const MODELS: u32 = 16;
 
+// Another version takes as much as questions over one node for each so many places.
+const TURN: u32 = 32;
+
+// How far the needed pairs of a version were asked for in frames from reset.
+#[derive(Drop)]
+struct Ahead {
+    frame: u32,
+    member: u32,
+}
+
 /// What a proof of a needed pair comes to.
 #[derive(Drop)]
 pub enum Proof<'v, 'p> {
@@ -118,6 +128,13 @@ pub struct Prover<'v, 'p> {
     step: Option<Prepared<'p>>,
     resets: Workspace,
     steps: Workspace,
+    ahead: Ahead,
+    // what questions had taken before the version; whether one found a pair apart since rows were last looked for; whether the
+    // version is to be left for that; and whether rows waited when they were last looked for: hints
+    began: u64,
+    is_fresh: bool,
+    is_late: bool,
+    waits: bool,
 }
 
 impl<'v, 'p> Model for Prover<'v, 'p> {
@@ -238,6 +255,7 @@ impl<'v, 'p> Prover<'v, 'p> {
             drop(steps);
             return Err(AllocError);
         };
+        let began = sweep.work();
         Ok(Prover {
             current: version,
             sweep,
@@ -246,6 +264,14 @@ impl<'v, 'p> Prover<'v, 'p> {
             step: None,
             resets,
             steps,
+            ahead: Ahead {
+                frame: 0,
+                member: 0,
+            },
+            began,
+            is_fresh: false,
+            is_late: false,
+            waits: false,
         })
     }
 
@@ -341,29 +367,124 @@ impl<'v, 'p> Prover<'v, 'p> {
         Ok(Some(vector_under(version, row)))
     }
 
-    /// A vector of a row that was held when the version came, splits it, and wasn't answered under it yet, where there is one: it
-    /// separates some needed pair. No pair is settled while there are such rows.
-    pub fn next_waiting(&mut self, alloc: Global) -> Result<Option<Vector<'p>>, AllocError>
+    // A vector of a row that waits, where there is one.
+    fn waiting(&mut self, alloc: Global) -> Result<Option<Vector<'p>>, AllocError>
         ensures kept { self.new ≡ self.old }
         ensures vector { IfOk result (λ v. IfSome v (SplitsSome self.old)) }
     {
         let version = self.current;
-        self.rows.run_ahead(alloc)?;
         let Some(row) = self.rows.next_waiting(alloc, version.classes())? else {
             return Ok(None);
         };
         Ok(Some(vector_under(version, row)))
     }
 
-    /// Whether there are more such rows. A hint.
-    pub fn has_waiting(&mut self) -> bool
+    // Asks of a needed pair that no row separates whether it holds in a frame from reset. Runs that show that it doesn't are
+    // simulated, and their rows wait.
+    fn ask_ahead(
+        &mut self,
+        alloc: Global,
+        asker: &mut Asker,
+        frame: u32,
+        member: u32,
+    ) -> Result<(), Halt>
+        requires frame { frame < self.old.k }
+        requires place { member < places_of self.old.pair }
+        ensures kept { self.new ≡ self.old }
+        ensures most { asker.new.most ≡ asker.old.most }
+        ensures halt { IfErr result (IsHalted asker.old asker.new) }
+    {
+        let classes = self.current.classes();
+        let rep = classes.rep(member);
+        if rep == member || self.rows.is_apart(Needed { rep, member }) {
+            return Ok(());
+        }
+        let found = self.sweep.base_difference_in(alloc, asker, frame, member)?;
+        if let Some(bits) = found {
+            self.rows.run_from(alloc, bits.as_slice())?;
+            self.rows.wait_again();
+        }
+        Ok(())
+    }
+
+    // Asks so of the needed pairs from where it was left off on. A question that is put aside isn't put again here.
+    fn frame_ahead(&mut self, alloc: Global, asker: &mut Asker, frame: u32) -> Result<(), Halt>
+        requires frame { frame < self.old.k }
+        ensures kept { self.new ≡ self.old }
+        ensures most { asker.new.most ≡ asker.old.most }
+        ensures halt { IfErr result (IsHalted asker.old asker.new) }
+    {
+        for member in self.ahead.member..self.current.classes().len() {
+            self.ahead.member = member + 1;
+            self.ask_ahead(alloc, asker, frame, member)?;
+        }
+        self.ahead.member = 0;
+        Ok(())
+    }
+
+    // Asks so in each of the first k frames from reset, once under a version: one frame after another, since what the pairs of a
+    // frame rest on is merged in the frames before it.
+    fn base_ahead(&mut self, alloc: Global, asker: &mut Asker) -> Result<(), Halt>
+        ensures kept { self.new ≡ self.old }
+        ensures most { asker.new.most ≡ asker.old.most }
+        ensures halt { IfErr result (IsHalted asker.old asker.new) }
+    {
+        for frame in self.ahead.frame..self.current.k() {
+            self.ahead.frame = frame;
+            self.frame_ahead(alloc, asker, frame)?;
+        }
+        self.ahead.frame = u32::MAX;
+        Ok(())
+    }
+
+    /// A vector of a row that waits, where there is one: it separates some needed pair. Rows wait that are held when the version comes;
+    /// those of runs from reset that tell pairs of it apart, for which it asks when no other is left; and those that are held when
+    /// questions have taken as much as another version would. An `Err` is want of memory, or a question is put aside in the asker.
+    pub fn next_waiting(
+        &mut self,
+        alloc: Global,
+        asker: &mut Asker,
+    ) -> Result<Option<Vector<'p>>, Halt>
+        ensures kept { self.new ≡ self.old }
+        ensures vector { IfOk result (λ v. IfSome v (SplitsSome self.old)) }
+        ensures most { asker.new.most ≡ asker.old.most }
+        ensures halt { IfErr result (IsHalted asker.old asker.new) }
+    {
+        self.rows.run_ahead(alloc)?;
+        self.leave_late();
+        self.waits = true;
+        if let Some(vector) = self.waiting(alloc)? {
+            return Ok(Some(vector));
+        }
+        self.base_ahead(alloc, asker)?;
+        let found = self.waiting(alloc)?;
+        self.waits = found.is_some();
+        Ok(found)
+    }
+
+    /// Whether what was found apart is better handed in at once: rows waited, or questions have taken as much as another version would
+    /// and found a pair apart, and no more rows wait. A hint.
+    pub fn is_due(&mut self) -> bool
         ensures { self.new ≡ self.old }
     {
         let version = self.current;
-        self.rows.has_waiting(version.classes())
+        (self.waits || self.is_late) && !self.rows.has_waiting(version.classes())
     }
 
-    // A vector that has the pair apart in one of the first k frames of a run, or none: by the sweep, and else over whole frames.
+    // Where questions found a pair apart, and have taken as much as another version would, has rows wait that came since.
+    fn leave_late(&mut self)
+        ensures { self.new ≡ self.old }
+    {
+        let took = self.sweep.work().saturating_sub(self.began);
+        if self.is_fresh && took >= (self.current.classes().len() / TURN) as u64 {
+            self.is_fresh = false;
+            self.is_late = true;
+            self.rows.wait_again();
+        }
+    }
+
+    // A vector that has the pair apart in one of the first k frames of a run, or none: by the sweep; by rows of runs that a model leads
+    // to; and else over whole frames.
     fn base_vector(
         &mut self,
         alloc: Global,
@@ -381,7 +502,10 @@ impl<'v, 'p> Prover<'v, 'p> {
         let version = self.current;
         match self.sweep.base_difference(alloc, asker, pair.member)? {
             None => return Ok(None),
-            Some(_) => {}
+            Some(bits) => self.rows.run_from(alloc, bits.as_slice())?,
+        }
+        if let Some(vector) = self.held(alloc, pair)? {
+            return Ok(Some(vector));
         }
         match self.base_row(alloc, pair)? {
             Some(row) => Ok(Some(vector_under(version, row))),
@@ -508,9 +632,11 @@ impl<'v, 'p> Prover<'v, 'p> {
             return Ok(Proof::Splits(vector));
         }
         if let Some(vector) = self.base_vector(alloc, asker, pair)? {
+            self.is_fresh = true;
             return Ok(Proof::Splits(vector));
         }
         if let Some(vector) = self.step_vector(alloc, asker, pair)? {
+            self.is_fresh = true;
             return Ok(Proof::Splits(vector));
         }
         Ok(Proof::Holds(Verdict::of(version, pair.member)))

@@ -1,7 +1,8 @@
-use Rattle.std.proofs.Common.{◌∙◌, ap, subst}
+use Rattle.std.proofs.Common.{◌∙◌, IfSome, ap, subst}
 use Rattle.frame_graph.specs.Inductions.{Induction, BasePasses}
-use Rattle.verdict_stamp.specs.Versions.{induction_of}
-use Rattle.verdict_stamp.proofs.Proving.{apart_of, none_by, split_of}
+use Rattle.verdict_stamp.specs.Versions.{Standing, induction_of}
+use Rattle.verdict_stamp.specs.Proofs.{IsSplitOf}
+use Rattle.verdict_stamp.proofs.Proving.{apart_by, apart_of, none_by, split_of}
 use Rattle.verdict_stamp.proofs.prover.Prover.base_vector.Goals as goal
 
 pub returns-in-None-clause-none : goal.returns-in-None-clause-none
@@ -9,13 +10,19 @@ returns-in-None-clause-none c =
     subst (λ (i : Induction). BasePasses i c.args.pair.member) (c.self.invariant.1 ∙ ap induction_of c.self.view_is)
     (none_by _ (BasePasses c.self.inside.sweep c.args.pair.member) c.in_ok-base_difference.field-0 c.in-None.is c.in_ok-base_difference.ensures.passes)
 
-pub vector_under-requires-clause-may : goal.vector_under-requires-clause-may
-vector_under-requires-clause-may c =
-    let s = split_of c.self.inside.current.now c.args.pair.member c.in_ok-row.field-0 c.in-Some-2.row c.in-Some-2.is c.in_ok-row.ensures.some in
-    s.may
-
 pub returns-in-Some-2-clause-some : goal.returns-in-Some-2-clause-some
 returns-in-Some-2-clause-some c =
+    apart_by c.self.inside.current.now c.args.self.now c.args.pair.member c.in_ok-vector.field-0 c.in-Some-2.vector c.self.view_is c.in-Some-2.is c.in_ok-vector.ensures.vector
+
+pub vector_under-requires-clause-may : goal.vector_under-requires-clause-may
+vector_under-requires-clause-may c =
+    let some = subst (λ (w : Standing). IfSome c.in_ok-row.field-0 (IsSplitOf w c.args.pair.member)) c.held.ensures.kept c.in_ok-row.ensures.some in
+    let s = split_of c.self.inside.current.now c.args.pair.member c.in_ok-row.field-0 c.in-Some-3.row c.in-Some-3.is some in
+    s.may
+
+pub returns-in-Some-3-clause-some : goal.returns-in-Some-3-clause-some
+returns-in-Some-3-clause-some c =
     let v = c.self.inside.current.now in
-    let s = split_of v c.args.pair.member c.in_ok-row.field-0 c.in-Some-2.row c.in-Some-2.is c.in_ok-row.ensures.some in
-    apart_of v c.args.self.now c.args.pair.member c.vector_under.result c.in-Some-2.row c.self.view_is c.vector_under.ensures s.apart s.may
+    let some = subst (λ (w : Standing). IfSome c.in_ok-row.field-0 (IsSplitOf w c.args.pair.member)) c.held.ensures.kept c.in_ok-row.ensures.some in
+    let s = split_of v c.args.pair.member c.in_ok-row.field-0 c.in-Some-3.row c.in-Some-3.is some in
+    apart_of v c.args.self.now c.args.pair.member c.vector_under.result c.in-Some-3.row c.self.view_is c.vector_under.ensures s.apart s.may
