@@ -222,8 +222,8 @@ impl Graph {
         asker.difference_or_pose(alloc, self.nodes.as_slice(), &mut self.lemmas, a, b)
     }
 
-    /// Whether an asker has put a question aside that two literals are near: their nodes are in its cone, or rest on what is, with a
-    /// few gates between, so that it is better asked once they are merged. A hint.
+    /// Whether an asker has put a question aside that two literals are near which aren't merged yet: their nodes are in its cone, or
+    /// rest on what is, with a few gates between, so that it is better asked once they are. A hint.
     pub fn rests_on(&self, asker: &Asker, a: Lit, b: Lit) -> bool
         requires left { a / 2 < length self.now }
         requires right { b / 2 < length self.now }
@@ -231,7 +231,7 @@ impl Graph {
     {
         let x = canonical_of(self.nodes.as_slice(), a);
         let y = canonical_of(self.nodes.as_slice(), b);
-        asker.rests_on(self.nodes.as_slice(), x.var(), y.var())
+        x != y && asker.rests_on(self.nodes.as_slice(), x.var(), y.var())
     }
 
     /// How much the questions took that were answered so far: the nodes of their cones, and the lines of their refutations. A hint.

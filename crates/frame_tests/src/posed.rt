@@ -268,7 +268,7 @@ fn rests_on(graph: &Graph, asker: &Asker, a: Lit, b: Lit) -> bool {
     a.var() < graph.len() && b.var() < graph.len() && graph.rests_on(asker, a, b)
 }
 
-// Whether the question about two products rests on what is near its cone, and on nothing far.
+// Whether the question about two products rests on what is near its cone, and on nothing far, nor on two literals that are one.
 fn rests_on_what_is_near(
     alloc: Global,
     graph: &mut Graph,
@@ -282,7 +282,8 @@ fn rests_on_what_is_near(
     let aside = is_put_aside(alloc, graph, asker, all[1], all[2]);
     let own = rests_on(graph, asker, all[1], all[2]) && rests_on(graph, asker, all[1], near);
     let far = rests_on(graph, asker, near, beside) || rests_on(graph, asker, near, all[0]);
-    Ok(!before && aside && own && !far)
+    let one = rests_on(graph, asker, all[1], all[1]);
+    Ok(!before && aside && own && !far && !one)
 }
 
 // The same, in a graph of leaves alone.

@@ -12,11 +12,11 @@ use std::sync::ledger::Ledger;
 use verdict_stamp::{Asker, Halt, Proof};
 
 // A question over a cone of more nodes than so many is solved away from the table, where there are others to go on there.
-const LARGE: u32 = 400;
+const LARGE: u32 = 100;
 
 // So it is where refutations of such questions had so many lines of late: easy ones are answered sooner at the table, and what they
 // teach is there for the others.
-const HARD: u64 = 500;
+const HARD: u64 = 200;
 
 /// A worker's asker, the table, and the turn at it while the worker has it.
 #[derive(Drop)]
