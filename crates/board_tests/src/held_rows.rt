@@ -181,7 +181,7 @@ fn runs_that_tell_a_pair_apart_are_asked_for(rt: HostRuntime) -> Result<(), Fail
             let version = Version::opening(alloc, &product, 1)?;
             let mut asker = Asker::new(alloc)?;
             let mut prover = Prover::new(alloc, &version)?;
-            let found = prover.next_waiting(alloc, &mut asker);
+            let found = prover.next_waiting(alloc, &mut asker, None);
             let waits = match &found {
                 Ok(found) => found.is_some(),
                 Err(_) => false,

@@ -109,13 +109,15 @@ impl<'v, 'p> Bench<'v, 'p> {
         &mut self,
         alloc: Global,
         asker: &mut Asker,
+        known: Option<&Known<'_>>,
     ) -> Result<Option<Vector<'p>>, Halt>
+        requires earlier { IfSome known (λ n. IsKnownFor self.old.value.pair self.old.value.k n.now) }
         ensures kept { self.new ≡ self.old }
         ensures vector { IfOk result (λ v. IfSome v (SplitsSome self.old.value)) }
         ensures most { asker.new.most ≡ asker.old.most }
         ensures halt { IfErr result (IsHalted asker.old asker.new) }
     {
-        self.prover.next_waiting(alloc, asker)
+        self.prover.next_waiting(alloc, asker, known)
     }
 
     /// Whether what was found apart is better handed in at once. A hint.

@@ -179,27 +179,9 @@ fn unsettled<L: Run>(offer: &Offer<'_, L>, found: &Result<Proof<'_, '_>, Halt>) 
     }
 }
 
-// What comes of an offered pair at a bench of the offer's version, where no row waits.
-#[tactic(auto, using(crate::proofs::Finds::found_by))]
-fn settle_at<'v, 'p, L: Run>(
-    alloc: Global,
-    lent: &Lent<'v, 'p, L>,
-    bench: &mut Bench<'v, 'p>,
-    asker: &mut Asker,
-    offer: &Offer<'p, L>,
-) -> Result<Proof<'v, 'p>, Halt>
-    requires version { bench.old.value ≡ offer.now.stamp.value }
-    ensures bench { bench.new ≡ bench.old }
-    ensures found { IfOk result (IsFoundFor L.pair L.k offer.now) }
-    ensures most { asker.new.most ≡ asker.old.most }
-    ensures halt { IfErr result (IsHalted asker.old asker.new) }
-{
-    let _owed = offer.stamp();
-    bench.settle(alloc, asker, offer.pair(), lent.known)
-}
-
-// What comes of an offered pair at a bench of the offer's version: the vector of a row that waits, where there is one.
-#[tactic(auto, using(crate::proofs::Finds::splits_for))]
+// What comes of an offered pair at a bench of the offer's version: the vector of a row that waits, where there is one; else the pair
+// is settled.
+#[tactic(auto, using(crate::proofs::Finds::found_by, crate::proofs::Finds::splits_for))]
 fn find_at<'v, 'p, L: Run>(
     alloc: Global,
     lent: &Lent<'v, 'p, L>,
@@ -214,8 +196,8 @@ fn find_at<'v, 'p, L: Run>(
     ensures halt { IfErr result (IsHalted asker.old asker.new) }
 {
     let _owed = offer.stamp();
-    if let Some(vector) = bench.next_waiting(alloc, asker)? {
+    if let Some(vector) = bench.next_waiting(alloc, asker, lent.known)? {
         return Ok(Proof::Splits(vector));
     }
-    settle_at(alloc, lent, bench, asker, offer)
+    bench.settle(alloc, asker, offer.pair(), lent.known)
 }

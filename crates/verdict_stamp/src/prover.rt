@@ -205,6 +205,21 @@ fn ask_step<'p>(
     found
 }
 
+// Whether known classes pair a member of a version's classes with its class's least place, so that nothing has to be asked of it.
+fn is_known(version: &Version<'_>, member: u32, known: Option<&Known<'_>>) -> bool
+    requires version { IsVersion version.now }
+    requires place { member < places_of version.now.pair }
+    requires known { IfSome known (λ n. IsBelow n.now version.now) }
+{
+    let Some(known) = known else {
+        return false;
+    };
+    let _places = version.product().len();
+    let (a, b) = version.classes().needed(member);
+    let _product = known.product();
+    known.classes().paired(a, b)
+}
+
 // The vector of a row of a version's places.
 fn vector_under<'p>(version: &Version<'p>, row: BitRow) -> Vector<'p>
     requires size { length row ≡ places_of version.now.pair }
@@ -379,7 +394,7 @@ impl<'v, 'p> Prover<'v, 'p> {
         Ok(Some(vector_under(version, row)))
     }
 
-    // Asks of a needed pair that no row separates whether it holds in a frame from reset. Runs that show that it doesn't are
+    // Asks of a needed pair that no row separates, and that isn't known, whether it holds in a frame from reset. Runs that show that it doesn't are
     // simulated, and their rows wait.
     fn ask_ahead(
         &mut self,
@@ -387,9 +402,11 @@ impl<'v, 'p> Prover<'v, 'p> {
         asker: &mut Asker,
         frame: u32,
         member: u32,
+        known: Option<&Known<'_>>,
     ) -> Result<(), Halt>
         requires frame { frame < self.old.k }
         requires place { member < places_of self.old.pair }
+        requires known { IfSome known (λ n. IsBelow n.now self.old) }
         ensures kept { self.new ≡ self.old }
         ensures most { asker.new.most ≡ asker.old.most }
         ensures halt { IfErr result (IsHalted asker.old asker.new) }
@@ -397,6 +414,9 @@ impl<'v, 'p> Prover<'v, 'p> {
         let classes = self.current.classes();
         let rep = classes.rep(member);
         if rep == member || self.rows.is_apart(Needed { rep, member }) {
+            return Ok(());
+        }
+        if is_known(self.current, member, known) {
             return Ok(());
         }
         let found = self.sweep.base_difference_in(alloc, asker, frame, member)?;
@@ -408,15 +428,22 @@ impl<'v, 'p> Prover<'v, 'p> {
     }
 
     // Asks so of the needed pairs from where it was left off on. A question that is put aside isn't put again here.
-    fn frame_ahead(&mut self, alloc: Global, asker: &mut Asker, frame: u32) -> Result<(), Halt>
+    fn frame_ahead(
+        &mut self,
+        alloc: Global,
+        asker: &mut Asker,
+        frame: u32,
+        known: Option<&Known<'_>>,
+    ) -> Result<(), Halt>
         requires frame { frame < self.old.k }
+        requires known { IfSome known (λ n. IsBelow n.now self.old) }
         ensures kept { self.new ≡ self.old }
         ensures most { asker.new.most ≡ asker.old.most }
         ensures halt { IfErr result (IsHalted asker.old asker.new) }
     {
         for member in self.ahead.member..self.current.classes().len() {
             self.ahead.member = member + 1;
-            self.ask_ahead(alloc, asker, frame, member)?;
+            self.ask_ahead(alloc, asker, frame, member, known)?;
         }
         self.ahead.member = 0;
         Ok(())
@@ -424,27 +451,35 @@ impl<'v, 'p> Prover<'v, 'p> {
 
     // Asks so in each of the first k frames from reset, once under a version: one frame after another, since what the pairs of a
     // frame rest on is merged in the frames before it.
-    fn base_ahead(&mut self, alloc: Global, asker: &mut Asker) -> Result<(), Halt>
+    fn base_ahead(
+        &mut self,
+        alloc: Global,
+        asker: &mut Asker,
+        known: Option<&Known<'_>>,
+    ) -> Result<(), Halt>
+        requires known { IfSome known (λ n. IsBelow n.now self.old) }
         ensures kept { self.new ≡ self.old }
         ensures most { asker.new.most ≡ asker.old.most }
         ensures halt { IfErr result (IsHalted asker.old asker.new) }
     {
         for frame in self.ahead.frame..self.current.k() {
             self.ahead.frame = frame;
-            self.frame_ahead(alloc, asker, frame)?;
+            self.frame_ahead(alloc, asker, frame, known)?;
         }
         self.ahead.frame = u32::MAX;
         Ok(())
     }
 
     /// A vector of a row that waits, where there is one: it separates some needed pair. Rows wait that are held when the version comes;
-    /// those of runs from reset that tell pairs of it apart, for which it asks when no other is left; and those that are held when
+    /// those of runs from reset that tell pairs of it apart, for which it asks when no other is left, but of no pair that is known; and those that are held when
     /// questions have taken as much as another version would. An `Err` is want of memory, or a question is put aside in the asker.
     pub fn next_waiting(
         &mut self,
         alloc: Global,
         asker: &mut Asker,
+        known: Option<&Known<'_>>,
     ) -> Result<Option<Vector<'p>>, Halt>
+        requires known { IfSome known (λ n. IsBelow n.now self.old) }
         ensures kept { self.new ≡ self.old }
         ensures vector { IfOk result (λ v. IfSome v (SplitsSome self.old)) }
         ensures most { asker.new.most ≡ asker.old.most }
@@ -456,7 +491,7 @@ impl<'v, 'p> Prover<'v, 'p> {
         if let Some(vector) = self.waiting(alloc)? {
             return Ok(Some(vector));
         }
-        self.base_ahead(alloc, asker)?;
+        self.base_ahead(alloc, asker, known)?;
         let found = self.waiting(alloc)?;
         self.waits = found.is_some();
         Ok(found)
