@@ -12,12 +12,13 @@ ghost use Rattle.sat_core.specs.Analysis.{IsMarked, AreCounted, AddsMarks, AreRe
 
 use crate::marks::Marks;
 use cnf_store::Clauses;
-use sat_guide::Minimiser;
+use sat_guide::{Minimiser, spread_of};
 use sat_trail::{Trail, complement};
 use std::alloc::{AllocError, Global};
 
 /// What analysis works in, kept from conflict to conflict: the marked places, the clauses that were resolved, the learned
-/// clause, by codes and by signed literals, and what is known of the literals that it can do without.
+/// clause, by codes and by signed literals, and what is known of the literals that it can do without. Of the last conflict, as
+/// hints for the search, how many of those clauses were resolved on its level, and over how many levels the learned one spreads.
 #[derive(Drop)]
 pub struct Analysis {
     pub marks: Marks,
@@ -25,6 +26,8 @@ pub struct Analysis {
     pub learned: Vec<u32>,
     pub literals: Vec<i32>,
     pub minimiser: Minimiser,
+    pub resolved: usize,
+    pub spread: u32,
 }
 
 impl Analysis {
@@ -36,6 +39,8 @@ impl Analysis {
             learned: Vec::new(alloc),
             literals: Vec::new(alloc),
             minimiser: Minimiser::new(alloc),
+            resolved: 0,
+            spread: 0,
         }
     }
 
@@ -58,8 +63,10 @@ impl Analysis {
     {
         self.begin(db, trail, start, from, conflict)?;
         let first = self.resolve_level(db, trail, from)?;
+        self.resolved = self.hints.len();
         self.minimise(db, trail, first)?;
         self.learned.push(complement(trail.lits[first]))?;
+        self.spread = spread_of(&trail.starts, &trail.at, &self.learned);
         turn(&mut self.hints);
         Ok(first)
     }

@@ -18,7 +18,7 @@ pub enum Answer {
     Unsat(Log),
 }
 
-/// Decides whether some assignment satisfies all clauses. It always returns, and restarts at most 1,000 times.
+/// Decides whether some assignment satisfies all clauses. It always returns, and restarts at most 1,000,000 times.
 pub fn solve(alloc: Global, cnf: &Cnf) -> Result<Answer, AllocError>
     ensures { IfOk result (IsAnswer cnf.now) }
 {

@@ -246,10 +246,12 @@ fn restart(s: &mut Solver, order: &mut Order) -> Result<(), AllocError>
     Ok(())
 }
 
-// Raises the clauses that the last learned one rests on, and their variables.
+// Raises the clauses that were resolved on the last conflict's level, and their variables.
 fn raise_last(s: &Solver, order: &mut Order, uses: &mut Uses) {
-    for h in &s.analysis.hints {
-        let number = *h as usize;
+    let hints = &s.analysis.hints;
+    let lower = hints.len().saturating_sub(s.analysis.resolved);
+    for i in lower..hints.len() {
+        let number = hints[i] as usize;
         if number > 0 && number <= s.db.len() {
             uses.raise(number - 1);
             for l in s.db.get(number - 1) {
@@ -264,10 +266,10 @@ fn raise_last(s: &Solver, order: &mut Order, uses: &mut Uses) {
 fn take_in(s: &Solver, guide: &mut Guide, uses: &mut Uses) -> Result<(), AllocError> {
     guide.attach(&s.db, &s.trail.lits, &s.trail.at)?;
     raise_last(s, &mut guide.order, uses);
-    uses.add()?;
+    uses.add(s.analysis.spread)?;
     if uses.are_many(s.trail.lits.len()) {
-        uses.choose(&s.db)?;
-        guide.extra.forget(&s.db, uses)?;
+        uses.choose()?;
+        guide.extra.forget(uses)?;
     }
     Ok(())
 }
@@ -402,13 +404,11 @@ fn search(alloc: Global, s: &mut Solver, guide: &mut Guide) -> Result<bool, Allo
     let mut uses = Uses::new(alloc, s.formula.len());
     let mut pace = Pace::new();
     let mut restarts: u32 = 0;
-    let mut conflicts: u32 = 0;
     let mut from = 0;
     'steps: loop {
-        if conflicts >= pace.conflicts() && restarts < 1000 {
+        if pace.is_due() && restarts < 1000000 {
             restarts += 1;
-            conflicts = 0;
-            pace.advance();
+            pace.rest();
             restart(s, &mut guide.order)?;
             from = s.trail.lits.len();
         } else {
@@ -419,7 +419,7 @@ fn search(alloc: Global, s: &mut Solver, guide: &mut Guide) -> Result<bool, Allo
                 Progress::Full => return Ok(true),
             }
             if s.db.len() > known {
-                conflicts = conflicts.saturating_add(1);
+                pace.note(s.analysis.spread);
                 take_in(s, guide, &mut uses)?;
             }
             from = s.trail.lits.len().saturating_sub(1);

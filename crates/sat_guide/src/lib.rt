@@ -3,8 +3,9 @@
 //! watching.
 //!
 //! The design is MiniSat's (Eén and Sörensson, SAT 2003): two watched literals with blocking literals, a heap of variables by
-//! activity, saved phases, Luby's restarts. All of it is advice: a solver reads again what it is led to, so no fact rests on
-//! anything here, and the contracts say no more than that each call is safe and returns.
+//! activity, saved phases; with restarts and a choice of clauses by the levels that these spread over, as in Glucose (Audemard and
+//! Simon, IJCAI 2009). All of it is advice: a solver reads again what it is led to, so no fact rests on anything here, and the
+//! contracts say no more than that each call is safe and returns.
 #![tactic(auto)]
 
 mod cone;
@@ -13,6 +14,7 @@ mod hints;
 mod minimising;
 mod ordering;
 mod pace;
+mod spread;
 mod uses;
 mod watches;
 
@@ -22,5 +24,6 @@ pub use hints::Hints;
 pub use minimising::Minimiser;
 pub use ordering::Order;
 pub use pace::Pace;
+pub use spread::spread_of;
 pub use uses::Uses;
 pub use watches::{Sweep, Watches};

@@ -1,22 +1,24 @@
-//! Which learned clauses to go on watching: the short ones, and the half that conflicts used most of late (Eén and Sörensson,
-//! SAT 2003). The others stay in the derivation, but are looked at no more. No fact rests on it.
+//! Which learned clauses to go on watching: those that spread over few levels (Audemard and Simon, IJCAI 2009), and of the others
+//! the half that conflicts used most of late (Eén and Sörensson, SAT 2003). The rest stays in the derivation, but is looked at no
+//! more. No fact rests on it.
 
-use cnf_store::Clauses;
 use std::alloc::{AllocError, Global};
+
+/// A clause that spreads over so many levels is watched for good, and so is each of two literals.
+const FEW: u32 = 3;
 
 /// How much each learned clause was used, and how many may be watched.
 #[derive(Drop)]
 pub struct Uses {
     // the number of the first learned clause
     first: usize,
-    // by learned clause: its weight, or 0 where it is forgotten
+    // by learned clause: its weight, or 0 where it is forgotten, and whether it is watched for good
     weights: Vec<u64>,
+    lasting: Vec<bool>,
     // the weights that a choice looks at
     ranking: Vec<u64>,
     // what is added to a weight
     bump: u64,
-    // clauses of at least this weight stay
-    least: u64,
     watched: usize,
     room: usize,
     // conflicts until there is more room, and how many that were before
@@ -30,9 +32,9 @@ impl Uses {
         Uses {
             first,
             weights: Vec::new(alloc),
+            lasting: Vec::new(alloc),
             ranking: Vec::new(alloc),
             bump: 1 << 16,
-            least: 0,
             watched: 0,
             room: if first / 3 < 1000 { 1000 } else { first / 3 },
             wait: 100,
@@ -41,15 +43,17 @@ impl Uses {
     }
 
     /// Whether clause `number` is watched on.
-    pub fn keeps(&self, db: &Clauses, number: usize) -> bool {
+    pub fn keeps(&self, number: usize) -> bool {
         if number < self.first {
             return true;
         }
         let learned = number - self.first;
-        number < db.len()
-            && learned < self.weights.len()
-            && self.weights[learned] > 0
-            && (self.weights[learned] >= self.least || db.get(number).len() <= 2)
+        learned < self.weights.len() && self.weights[learned] > 0
+    }
+
+    // Whether a learned clause is watched for good.
+    fn lasts(&self, learned: usize) -> bool {
+        learned < self.lasting.len() && self.lasting[learned]
     }
 
     /// Counts a use of clause `number`.
@@ -63,9 +67,10 @@ impl Uses {
         }
     }
 
-    /// Takes in the newest clause, after a conflict, and has later uses weigh more.
-    pub fn add(&mut self) -> Result<(), AllocError> {
+    /// Takes in the newest clause, after a conflict, which spreads over so many levels, and has later uses weigh more.
+    pub fn add(&mut self, spread: u32) -> Result<(), AllocError> {
         self.weights.push(self.bump)?;
+        self.lasting.push(spread <= FEW)?;
         self.watched = self.watched.saturating_add(1);
         self.wait = self.wait.saturating_sub(1);
         if self.wait == 0 {
@@ -88,32 +93,30 @@ impl Uses {
         self.watched >= self.room.saturating_add(trail)
     }
 
-    /// Chooses those that stay: about half, and the short ones.
-    pub fn choose(&mut self, db: &Clauses) -> Result<(), AllocError> {
+    /// Chooses those that stay: about half, and those that last.
+    pub fn choose(&mut self) -> Result<(), AllocError> {
         self.ranking.clear();
         for learned in 0..self.weights.len() {
-            if self.weights[learned] > 0 && is_long(db, self.first.saturating_add(learned)) {
+            if self.weights[learned] > 0 && !self.lasts(learned) {
                 self.ranking.push(self.weights[learned])?;
             }
         }
         self.ranking.sort()?;
         let half = self.ranking.len() / 2;
-        self.least = if half < self.ranking.len() {
+        let least = if half < self.ranking.len() {
             self.ranking[half]
         } else {
             0
         };
-        self.drop_others(db);
+        self.drop_below(least);
         Ok(())
     }
 
-    // Marks the others as forgotten.
-    fn drop_others(&mut self, db: &Clauses) {
+    // Marks those of less weight as forgotten, but for those that last.
+    fn drop_below(&mut self, least: u64) {
         let mut watched: usize = 0;
         for learned in 0..self.weights.len() {
-            if self.weights[learned] < self.least
-                && is_long(db, self.first.saturating_add(learned))
-            {
+            if self.weights[learned] < least && !self.lasts(learned) {
                 self.weights[learned] = 0;
             } else {
                 watched = watched.saturating_add(1);
@@ -121,11 +124,6 @@ impl Uses {
         }
         self.watched = watched;
     }
-}
-
-// Whether a clause has more than two literals.
-fn is_long(db: &Clauses, number: usize) -> bool {
-    number < db.len() && db.get(number).len() > 2
 }
 
 // A weight among smaller ones. What isn't forgotten stays so.

@@ -381,13 +381,13 @@ fn better(
 
 impl Watches {
     /// Forgets the clauses that aren't to stay.
-    pub fn forget(&mut self, db: &Clauses, uses: &Uses) -> Result<(), AllocError> {
+    pub fn forget(&mut self, uses: &Uses) -> Result<(), AllocError> {
         self.empty_rows();
         let mut from = 0;
         let mut to = 0;
         for _ in 0..self.count {
             if let Some(copy) = copy_at(&self.copies, from) {
-                if uses.keeps(db, self.base.saturating_add(copy.after)) {
+                if uses.keeps(self.base.saturating_add(copy.after)) {
                     let end = move_down(&mut self.copies, from, copy.end, to);
                     self.watch_both(copy.first, copy.second, to)?;
                     to = end;

@@ -1,6 +1,6 @@
 //! What no contract says: that the advice is the one that is meant.
 use cnf_store::{Arena, Clauses, Joined, Value};
-use sat_guide::{Near, Order, Pace, Uses, Watches};
+use sat_guide::{Near, Order, Pace, Uses, Watches, spread_of};
 use std::alloc::{AllocError, Global};
 use std::test::Fail;
 
@@ -64,39 +64,70 @@ fn what_is_raised_most_is_decided_first_by_its_last_value(rt: HostRuntime) -> Re
     Ok(())
 }
 
-#[test]
-fn restarts_follow_lubys_sequence(rt: HostRuntime) -> Result<(), Fail> {
+// Whether a restart is due after so many conflicts on few levels, and then so many on many.
+fn is_due_after(few: u32, many: u32) -> bool {
     let mut pace = Pace::new();
-    for length in [1, 1, 2, 1, 1, 2, 4, 1] {
-        assert!(rt; pace.conflicts() == 100 * length);
-        pace.advance();
+    for _ in 0..few {
+        pace.note(2);
+    }
+    for _ in 0..many {
+        pace.note(9);
+    }
+    pace.is_due()
+}
+
+#[test]
+fn a_restart_comes_where_clauses_spread_further_than_before(rt: HostRuntime) -> Result<(), Fail> {
+    for (few, many, due) in [
+        (0, 0, false),
+        (100, 0, false),
+        (0, 100, false),
+        (100, 3, true),
+        (5, 2, false),
+    ] {
+        assert!(rt; is_due_after(few, many) == due);
     }
     Ok(())
 }
 
-// Adds three clauses, each with its weight.
-fn add_three(db: &mut Clauses, uses: &mut Uses) -> Result<(), AllocError> {
-    for clause in [&[0, 2, 4], &[1, 2, 4], &[0, 3, 5]] {
-        db.add(clause)?;
-        uses.add()?;
-    }
-    Ok(())
-}
-
-// Which of three clauses are kept where the first and the third were used.
-fn kept_of_three(alloc: Global, db: &mut Clauses) -> Result<[bool; 3], AllocError> {
+// Which of three clauses that spread so far are kept where the first and the third were used.
+fn kept_of_three(alloc: Global, spreads: [u32; 3]) -> Result<[bool; 3], AllocError> {
     let mut uses = Uses::new(alloc, 0);
-    add_three(db, &mut uses)?;
+    for spread in spreads {
+        uses.add(spread)?;
+    }
     uses.raise(0);
     uses.raise(2);
-    uses.choose(db)?;
-    Ok([uses.keeps(db, 0), uses.keeps(db, 1), uses.keeps(db, 2)])
+    uses.choose()?;
+    Ok([uses.keeps(0), uses.keeps(1), uses.keeps(2)])
 }
 
 #[test]
-fn the_less_used_half_of_long_clauses_is_forgotten(rt: HostRuntime) -> Result<(), Fail> {
-    let none = Arena::new(rt.alloc());
-    let mut db = Clauses::new(Joined::new(&none, &none)?, Arena::new(rt.alloc()));
-    assert!(rt; kept_of_three(rt.alloc(), &mut db)? == [true, false, true]);
+fn the_less_used_half_is_forgotten_but_for_what_spreads_little(
+    rt: HostRuntime,
+) -> Result<(), Fail> {
+    for (spreads, kept) in [
+        ([4, 4, 4], [true, false, true]),
+        ([9, 3, 4], [false, true, true]),
+    ] {
+        assert!(rt; kept_of_three(rt.alloc(), spreads)? == kept);
+    }
+    Ok(())
+}
+
+#[test]
+fn a_clause_spreads_over_the_levels_of_its_literals(rt: HostRuntime) -> Result<(), Fail> {
+    // variables 0 to 7 stand on the trail in their order, in levels that begin at 1, 3 and 6
+    let starts = [1, 3, 6];
+    let at = [1, 2, 3, 4, 5, 6, 7, 8];
+    for (learned, spread) in [
+        (&[14][..], 1),
+        (&[6, 14][..], 2),
+        (&[10, 8, 15][..], 2),
+        (&[11, 6, 4, 2, 12][..], 3),
+        (&[8, 4, 0, 12][..], 4),
+    ] {
+        assert!(rt; spread_of(&starts, &at, learned) == spread);
+    }
     Ok(())
 }

@@ -11,4 +11,4 @@ invariant-steps l = record {
 }
 
 abbrev pub decreases-steps : goal.decreases-steps
-decreases-steps l = (1000 - l.restarts) * 3 ^ l.s.vars + (3 ^ l.s.vars - rank l.s.vars l.s.trail.reasons.items)
+decreases-steps l = (1000000 - l.restarts) * 3 ^ l.s.vars + (3 ^ l.s.vars - rank l.s.vars l.s.trail.reasons.items)
