@@ -1,12 +1,14 @@
 #!/usr/bin/env python3
 """Makes pairs of arithmetic circuits by yosys and ABC, from Verilog that stands here.
 
-    bench/arith_pairs.py FOLDER
+    bench/arith_pairs.py FOLDER [more]
 
 writes FOLDER/NAME_left.aig and FOLDER/NAME_right.aig: filters of a few constant factors, a barrel shifter with an adder, a serial
 line, and a count of the ones of a word, each beside what ABC's retiming and rewriting make of it (names that end with r) or beside what yosys makes of it in another
-style, by its pass maccmap (names that end with m). Needs `yosys` and `yosys-abc` or `berkeley-abc`. Unproved."""
+style, by its pass maccmap (names that end with m). With `more` it writes others: filters of drawn factors (fN_TAPS_BITS), counts of 40 and
+48 bits, and a sum of two squares. Needs `yosys` and `yosys-abc` or `berkeley-abc`. Unproved."""
 import os
+import random
 import shutil
 import subprocess
 import sys
@@ -92,6 +94,28 @@ CIRCUITS = {
     "count": COUNT,
 }
 
+SQUARES = """
+module top(input clk, input [6:0] a, input [6:0] b, output reg [15:0] o);
+  reg [6:0] x = 0, y = 0;
+  initial o = 0;
+  always @(posedge clk) begin x <= a; y <= b; o <= x * x + y * y; end
+endmodule
+"""
+
+
+def more():
+    """Filters of factors that are drawn, and other circuits."""
+    draw = random.Random(5)
+    circuits = {}
+    for taps, bits in [(3, 7), (3, 8), (4, 6), (4, 7), (5, 6), (2, 10), (3, 8), (4, 7)]:
+        factors = [draw.randrange(3, 255) | 1 for _ in range(taps)]
+        circuits[f"f{len(circuits)}_{taps}_{bits}"] = fir(factors, bits)
+    for bits in (40, 48):
+        circuits[f"cnt{bits}"] = COUNT.replace("63", str(bits - 1)).replace("64", str(bits))
+    circuits["sq7"] = SQUARES
+    return circuits
+
+
 END = "opt -full; setundef -zero -init -undriven; dffunmap; techmap; {abc}; opt_clean; write_aiger -zinit {out}"
 LEFT = "read_verilog {name}.v; prep -top top -flatten; opt -full; techmap; "
 OTHER = "read_verilog {name}.v; prep -top top -flatten; alumacc; share; opt -full; maccmap -unmap; techmap; "
@@ -103,12 +127,12 @@ def made(words, folder):
 
 
 def main():
-    if len(sys.argv) != 2:
+    if len(sys.argv) not in (2, 3) or sys.argv[2:] not in ([], ["more"]):
         sys.exit(__doc__)
-    folder = sys.argv[1]
+    folder, circuits = sys.argv[1], more() if sys.argv[2:] else CIRCUITS
     os.makedirs(folder, exist_ok=True)
     abc = shutil.which("yosys-abc") or shutil.which("berkeley-abc") or sys.exit("needs yosys-abc or berkeley-abc")
-    for name, text in CIRCUITS.items():
+    for name, text in circuits.items():
         with open(f"{folder}/{name}.v", "w") as file:
             file.write(text)
         left = LEFT + END.format(abc="abc -g AND -fast", out=f"{name}_left.aig")

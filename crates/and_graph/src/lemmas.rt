@@ -18,7 +18,7 @@ use sat_log::Log;
 use std::alloc::{AllocError, Global};
 
 // A clause of more literals is not worth keeping.
-const LONGEST: usize = 12;
+const LONGEST: usize = 8;
 
 // A refutation of fewer lines was easy.
 const EASY: u64 = 20;
