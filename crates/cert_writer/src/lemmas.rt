@@ -10,6 +10,10 @@ ghost use Rattle.std.specs.Prelude.{◌≡◌, ◌<◌, ◌≤◌, length};
 ghost use Rattle.std.specs.List.{All};
 ghost use Rattle.log_check.specs.FirstBad.{Decides};
 
+use crate::alone::Alone;
+use crate::gates::{Gate, Gates};
+use crate::local::Local;
+use crate::shorts::Shorts;
 use crate::trimming::trim;
 use circ_model::Lit;
 use class_partition::Classes;
@@ -49,8 +53,8 @@ fn no_clauses(alloc: Global, vars: u32) -> Result<Cnf, AllocError> {
     }
 }
 
-// Adds a clause.
-fn add_clause(own: &mut Cnf, literals: &[i32]) -> Result<(), AllocError>
+/// Adds a clause, where its literals are of the formula's variables.
+pub(crate) fn add_clause(own: &mut Cnf, literals: &[i32]) -> Result<(), AllocError>
     ensures { own.new.vars ≡ own.old.vars }
 {
     if are_within(literals, own.vars()) {
@@ -92,7 +96,7 @@ fn number_at(numbers: &[u64], i: u64) -> u64 {
 
 /// A solver over the clauses of frames.
 #[derive(Drop)]
-struct Refuter {
+pub(crate) struct Refuter {
     vars: u32,
     ready: Ready,
     work: Workspace,
@@ -109,7 +113,7 @@ impl Model for Refuter {
 }
 
 impl Refuter {
-    fn new(alloc: Global, frames: &Cnf) -> Result<Refuter, AllocError> {
+    pub(crate) fn new(alloc: Global, frames: &Cnf) -> Result<Refuter, AllocError> {
         Ok(Refuter {
             vars: frames.vars(),
             ready: Ready::new(alloc, frames)?,
@@ -120,6 +124,31 @@ impl Refuter {
     // A refutation of the frames' clauses with these.
     fn refute(&mut self, alloc: Global, own: &Cnf) -> Result<Option<Log>, AllocError> {
         if own.vars() != self.vars {
+            return Ok(None);
+        }
+        match self.ready.solve_in(alloc, &mut self.work, own)? {
+            Answer::Unsat(log) => Ok(Some(log)),
+            Answer::Sat(_) => Ok(None),
+        }
+    }
+
+    /// Has the next question begin with these activities.
+    pub(crate) fn begin_with(&mut self, activities: &[u32]) -> Result<(), AllocError> {
+        self.work.begin_with(activities)
+    }
+
+    /// How active a variable was in the last question.
+    pub(crate) fn activity(&self, var: usize) -> u32 {
+        self.work.activity(var)
+    }
+
+    /// A refutation of these clauses, where there are none of frames.
+    pub(crate) fn refute_alone(
+        &mut self,
+        alloc: Global,
+        own: &Cnf,
+    ) -> Result<Option<Log>, AllocError> {
+        if own.vars() < self.vars {
             return Ok(None);
         }
         match self.ready.solve_in(alloc, &mut self.work, own)? {
@@ -264,6 +293,33 @@ impl Places {
         }
     }
 
+    // Whether a place and the least of its class have different phases.
+    fn is_turned(&self, classes: &Classes, place: u32) -> bool {
+        if place >= classes.len() {
+            return false;
+        }
+        let rep = classes.rep(place);
+        rep < classes.len() && classes.phase(rep) != classes.phase(place)
+    }
+
+    // The least place of a place's class.
+    fn least_of(&self, classes: &Classes, place: u32) -> u32 {
+        if place < classes.len() {
+            classes.rep(place)
+        } else {
+            place
+        }
+    }
+
+    // The literal of the least place of a class that has the value of a literal of the class.
+    fn least_literal(&self, classes: &Classes, lit: Lit) -> Lit {
+        let turned = self.is_turned(classes, lit.var());
+        Lit::of(
+            self.least_of(classes, lit.var()).min(0x7fff_ffff),
+            lit.complement() != turned,
+        )
+    }
+
     // The literals of the least place of a place's class, and of the place at their relative phase.
     fn literals_of(&self, classes: &Classes, place: u32) -> (i32, i32) {
         if place >= classes.len() {
@@ -301,13 +357,15 @@ impl Places {
     }
 }
 
-// The lines that are derived, past so many clauses that are given. Beside them the memory in which a line is made.
+// The lines that are derived, past so many clauses that are given. Beside them the memory in which a line is made, and which literals
+// of the frame are assumed in it.
 #[derive(Drop)]
 struct Lines {
     given: u64,
     log: Log,
     literals: Vec<i32>,
     hints: Vec<u64>,
+    assumed: Vec<Lit>,
 }
 
 impl Lines {
@@ -317,7 +375,47 @@ impl Lines {
             log: Log::new(alloc),
             literals: Vec::new(alloc),
             hints: Vec::new(alloc),
+            assumed: Vec::new(alloc),
         }
+    }
+
+    // Begins a line with two literals assumed.
+    fn assume(&mut self, one: Lit, other: Lit) -> Result<(), AllocError> {
+        self.hints.clear();
+        self.assumed.clear();
+        self.assumed.push(one)?;
+        self.assumed.push(other)?;
+        Ok(())
+    }
+
+    // Whether a literal is assumed.
+    fn has(&self, lit: Lit) -> bool {
+        for own in self.assumed.as_slice() {
+            if *own == lit {
+                return true;
+            }
+        }
+        false
+    }
+
+    // Adds a hint that gives a literal, unless that is assumed already. Answers whether its complement isn't.
+    fn give(&mut self, hint: u64, lit: Lit) -> Result<bool, AllocError> {
+        if self.has(lit) {
+            return Ok(true);
+        }
+        if self.has(lit.not()) {
+            return Ok(false);
+        }
+        self.hints.push(hint)?;
+        self.assumed.push(lit)?;
+        Ok(true)
+    }
+
+    // Ends a line of two literals by a last hint, and answers its number.
+    fn end_line(&mut self, hint: u64, one: i32, other: i32) -> Result<u64, AllocError> {
+        self.hints.push(hint)?;
+        add_line(&mut self.log, &[one, other], &self.hints)?;
+        Ok(self.log.len())
     }
 
     // Takes over the lines that a case's refutation needs, and answers the number of the last one.
@@ -423,6 +521,93 @@ impl Lines {
         self.hints
             .push(self.given.saturating_add(start).saturating_add(row))?;
         Ok(with(on, rests, row - 1))
+    }
+
+    // Takes over the lines that a refutation over clauses of their own needs, whose last two say that two literals hold. Answers the
+    // number of the last one.
+    fn take_small(
+        &mut self,
+        local: &Local,
+        shorts: &mut Shorts,
+        kept: &Log,
+        rests: &mut Vec<Rests>,
+        case: (i32, i32),
+    ) -> Result<u64, AllocError> {
+        let start = self.log.len();
+        rests.clear();
+        for i in 0..kept.len() {
+            self.take_small_line(local, shorts, kept, rests, case, start, i)?;
+        }
+        Ok(self.log.len())
+    }
+
+    // Takes over a line of it.
+    fn take_small_line(
+        &mut self,
+        local: &Local,
+        shorts: &mut Shorts,
+        kept: &Log,
+        rests: &mut Vec<Rests>,
+        case: (i32, i32),
+        start: u64,
+        i: u64,
+    ) -> Result<(), AllocError>
+        requires { i < length kept.now }
+    {
+        let count = kept.len();
+        let last = i + 1 == count;
+        let on = self.take_small_hints(local, start, kept.hints(i), rests.as_slice())?;
+        let on = Rests {
+            first: last || on.first,
+            second: last || on.second,
+        };
+        rests.push(on)?;
+        self.literals.clear();
+        for lit in kept.clause(i) {
+            self.literals.push(local.literal(*lit))?;
+        }
+        if on.first {
+            self.literals.push(case.0.wrapping_neg())?;
+        }
+        if on.second {
+            self.literals.push(case.1.wrapping_neg())?;
+        }
+        add_line(&mut self.log, &self.literals, &self.hints)?;
+        if !on.first && !on.second {
+            shorts.note(&self.literals, self.log.len())?;
+        }
+        Ok(())
+    }
+
+    // The hints of a line of it as they are taken over. Answers what the line rests on.
+    fn take_small_hints(
+        &mut self,
+        local: &Local,
+        start: u64,
+        hints: &[u64],
+        rests: &[Rests],
+    ) -> Result<Rests, AllocError> {
+        let total = local.cnf.len();
+        let mut on = Rests {
+            first: false,
+            second: false,
+        };
+        self.hints.clear();
+        for hint in hints {
+            if *hint > total {
+                let row = *hint - total;
+                let before = self.given.saturating_add(start);
+                self.hints.push(before.saturating_add(row))?;
+                on = with(on, rests, row - 1);
+            } else if *hint == total {
+                on = Rests { second: true, ..on };
+            } else if *hint + 1 == total {
+                on = Rests { first: true, ..on };
+            } else {
+                self.hints.push(local.source(*hint))?;
+            }
+        }
+        Ok(on)
     }
 
     // The lines up to one that these two reach.
@@ -568,10 +753,56 @@ impl Lines {
     }
 }
 
+// A solver over the clauses of frames, and the places of the last one, of which nothing is derived.
+fn beginning(
+    alloc: Global,
+    frames: &Cnf,
+    places: u32,
+    base: u32,
+) -> Result<(Refuter, Places), AllocError> {
+    let places = Places::new(alloc, places, base)?;
+    match Refuter::new(alloc, frames) {
+        Ok(refuter) => Ok((refuter, places)),
+        Err(error) => {
+            drop(places);
+            Err(error)
+        }
+    }
+}
+
+// Nothing is derived yet, with these.
+fn with_both(
+    alloc: Global,
+    frames: &Cnf,
+    places: u32,
+    base: u32,
+    gates: Gates,
+    alone: Alone,
+) -> Result<Lemmas, AllocError> {
+    match beginning(alloc, frames, places, base) {
+        Ok((refuter, places)) => Ok(Lemmas {
+            refuter,
+            alone,
+            rests: Vec::new(alloc),
+            gates,
+            places,
+            lines: Lines::new(alloc, frames.len()),
+        }),
+        Err(error) => {
+            drop(gates);
+            drop(alone);
+            Err(error)
+        }
+    }
+}
+
 /// What is derived in a frame.
 #[derive(Drop)]
 pub struct Lemmas {
     refuter: Refuter,
+    alone: Alone,
+    rests: Vec<Rests>,
+    gates: Gates,
     places: Places,
     lines: Lines,
 }
@@ -579,15 +810,11 @@ pub struct Lemmas {
 impl Lemmas {
     /// Nothing is derived yet. The frames' clauses are given, and the variables of the frame's places begin past `base`.
     pub fn new(alloc: Global, frames: &Cnf, places: u32, base: u32) -> Result<Lemmas, AllocError> {
-        let places = Places::new(alloc, places, base)?;
-        match Refuter::new(alloc, frames) {
-            Ok(refuter) => Ok(Lemmas {
-                refuter,
-                places,
-                lines: Lines::new(alloc, frames.len()),
-            }),
+        let gates = Gates::new(alloc, frames, places, base)?;
+        match Alone::new(alloc, frames) {
+            Ok(alone) => with_both(alloc, frames, places, base, gates, alone),
             Err(error) => {
-                drop(places);
+                drop(gates);
                 Err(error)
             }
         }
@@ -615,7 +842,10 @@ impl Lemmas {
         classes: &Classes,
         place: u32,
     ) -> Result<(), AllocError> {
-        if place >= classes.len() {
+        if place >= classes.len() || self.derive_twins(cells, classes, place)? {
+            return Ok(());
+        }
+        if self.derive_alone(alloc, classes, place)? {
             return Ok(());
         }
         self.places.cone.clear();
@@ -631,6 +861,179 @@ impl Lemmas {
         };
         set_derived(&mut self.places.derived, place, lines);
         Ok(())
+    }
+
+    // Derives it over what it rests on, where it can: a case and then the other. Answers whether it did.
+    fn derive_alone(
+        &mut self,
+        alloc: Global,
+        classes: &Classes,
+        place: u32,
+    ) -> Result<bool, AllocError> {
+        let (x, y) = self.places.literals_of(classes, place);
+        let least = self.derive_small(alloc, classes, place, (x, y.wrapping_neg()))?;
+        if least == 0 {
+            return Ok(false);
+        }
+        let other = self.derive_small(alloc, classes, place, (x.wrapping_neg(), y))?;
+        if other == 0 {
+            return Ok(false);
+        }
+        let lines = Derived {
+            least,
+            place: other,
+        };
+        set_derived(&mut self.places.derived, place, lines);
+        Ok(true)
+    }
+
+    // What is known of a variable of which a place's case is asked: what it is derived to be equal to, or what defines it.
+    fn define(&mut self, classes: &Classes, place: u32, var: u32) -> Result<(), AllocError> {
+        let own = i32::try_from(var).unwrap_or(0);
+        let base = self.places.base;
+        let at = var.saturating_sub(base).saturating_sub(1);
+        if var > base && at != place {
+            let known = self.places.derived_at(at);
+            if known.least != 0 && known.place != 0 {
+                let (x, y) = self.places.literals_of(classes, at);
+                let lit = if y == own { x } else { x.wrapping_neg() };
+                let up = self.lines.given.saturating_add(known.place);
+                let down = self.lines.given.saturating_add(known.least);
+                if y == own {
+                    return self.alone.local.equate(own, lit, up, down);
+                }
+                return self.alone.local.equate(own, lit, down, up);
+            }
+        }
+        let what = self.alone.definitions.of(var);
+        self.alone.local.define(own, what)
+    }
+
+    // Lays the clauses on which a case of a place rests.
+    fn lay(&mut self, classes: &Classes, place: u32, case: (i32, i32)) -> Result<(), AllocError> {
+        let (first, second) = case;
+        self.alone.local.begin(first, second)?;
+        for j in 0..self.alone.definitions.len() {
+            if j >= self.alone.local.members.len() {
+                break;
+            }
+            let var = self.alone.local.member(j);
+            self.define(classes, place, var)?;
+        }
+        self.alone.recall(&self.lines.log, self.lines.given)?;
+        self.alone.local.add(&[first], 0)?;
+        self.alone.local.add(&[second], 0)
+    }
+
+    // Derives that not both of a case's literals hold, over what it rests on, and answers the number of the line, or 0.
+    fn derive_small(
+        &mut self,
+        alloc: Global,
+        classes: &Classes,
+        place: u32,
+        case: (i32, i32),
+    ) -> Result<u64, AllocError> {
+        self.lay(classes, place, case)?;
+        match self.alone.refute(alloc)? {
+            Some(log) => self.take_small(alloc, case, log),
+            None => Ok(0),
+        }
+    }
+
+    // Takes over the lines that its refutation needs.
+    fn take_small(&mut self, alloc: Global, case: (i32, i32), log: Log) -> Result<u64, AllocError> {
+        let kept = trim(alloc, self.alone.local.cnf.len(), log)?;
+        let Alone { local, shorts, .. } = &mut self.alone;
+        let taken = self
+            .lines
+            .take_small(local, shorts, &kept, &mut self.rests, case);
+        drop(kept);
+        taken
+    }
+
+    // Derives it where both are gates with operands of one class each, as far as what links these is derived. Answers whether it did.
+    fn derive_twins(
+        &mut self,
+        cells: &[Cell],
+        classes: &Classes,
+        place: u32,
+    ) -> Result<bool, AllocError> {
+        let least = self.places.least_of(classes, place);
+        if self.places.is_turned(classes, place) {
+            return Ok(false);
+        }
+        let Some((one, other)) = self.gates.twins(cells, classes, least, place) else {
+            return Ok(false);
+        };
+        let down = self.derive_from(classes, &one, &other)?;
+        let up = self.derive_from(classes, &other, &one)?;
+        if down == 0 || up == 0 {
+            return Ok(false);
+        }
+        let lines = Derived {
+            least: down,
+            place: up,
+        };
+        set_derived(&mut self.places.derived, place, lines);
+        Ok(true)
+    }
+
+    // Derives that one gate gives another, whose operands its own give. Answers the number of the line, or 0.
+    fn derive_from(
+        &mut self,
+        classes: &Classes,
+        from: &Gate,
+        to: &Gate,
+    ) -> Result<u64, AllocError> {
+        if from.place > 0x7fff_ffff || to.place > 0x7fff_ffff {
+            return Ok(0);
+        }
+        self.lines
+            .assume(Lit::of(from.place, false), Lit::of(to.place, true))?;
+        let left = self.lines.give(from.needs_left, from.left)?;
+        let right = self.lines.give(from.needs_right, from.right)?;
+        if !left || !right {
+            return Ok(0);
+        }
+        let left = self.carry(classes, from.left, to.left)?;
+        let right = self.carry(classes, from.right, to.right)?;
+        if !left || !right {
+            return Ok(0);
+        }
+        let one = self.places.literal(from.place, true);
+        let other = self.places.literal(to.place, false);
+        if from.place < to.place {
+            self.lines.end_line(to.given, one, other)
+        } else {
+            self.lines.end_line(to.given, other, one)
+        }
+    }
+
+    // Goes from a literal that is assumed to another of its class, over the class's least place. Answers whether it came there.
+    fn carry(&mut self, classes: &Classes, from: Lit, to: Lit) -> Result<bool, AllocError> {
+        let least = self.places.least_literal(classes, from);
+        let there = self.step(classes, from, from, least)?;
+        let back = self.step(classes, to, least, to)?;
+        Ok(there && back)
+    }
+
+    // Gives a literal by the line that says so of a place and the least of its class: of the literal's place and the other of the two.
+    fn step(&mut self, classes: &Classes, of: Lit, from: Lit, to: Lit) -> Result<bool, AllocError> {
+        if from == to {
+            return Ok(true);
+        }
+        let known = self.places.derived_at(of.var());
+        if known.least == 0 || known.place == 0 {
+            return Ok(false);
+        }
+        let has_value = of.complement() == self.places.is_turned(classes, of.var());
+        let line = if has_value == (of == from) {
+            known.place
+        } else {
+            known.least
+        };
+        let hint = self.lines.given.saturating_add(line);
+        self.lines.give(hint, to)
     }
 
     // Derives that not both of two literals hold, and answers the number of the line, or 0.

@@ -3,7 +3,12 @@
 //! 19(7), 2000; derivations: LRAT, CADE 2017.)
 #![tactic(auto)]
 
+mod alone;
+mod definitions;
+mod gates;
 mod lemmas;
+mod local;
+mod shorts;
 mod trimming;
 mod writing;
 
