@@ -1,7 +1,10 @@
 //! Derivations that rest on what was derived before. That a place and its class's least are equal in a frame is derived in two
-//! cases, over the frame's clauses and over what lower places have derived: each line of a refutation gets the literals of the case
-//! that it rests on. The log of a place is then made of the lines that it reaches. (Sweeping: Kuehlmann and Krohm, DAC 1997; its
-//! derivations: Chatterjee, Mishchenko, Brayton and Kuehlmann, DAC 2007.)
+//! cases, and each line of a refutation gets the literals of the case that it rests on. The log of a place is then made of the lines that
+//! it reaches. (Sweeping: Kuehlmann and Krohm, DAC 1997; its derivations: Chatterjee, Mishchenko, Brayton and Kuehlmann, DAC 2007.)
+//!
+//! Two gates with operands of one class each have their lines written down (gates.rt). Else a case is refuted over what it rests on,
+//! where a place that is derived to be equal to its class's least stands for no gate (alone.rt); and where that doesn't refute it, over
+//! all clauses of the frames and what its cone's places have derived.
 //!
 //! A log that is handed on is no more than likely: it is checked where it is used, so no contract says more here than that each
 //! call is safe and returns.
