@@ -1206,3 +1206,22 @@ fn certificates_are_stored_of_equivalent_pairs(rt: HostRuntime) -> Result<(), Fa
     assert!(rt; answers_without(&rt, alloc, &unstored, 2)?);
     Ok(())
 }
+
+// The conjunction of three inputs, and not that beside another gate; the same with the three grouped otherwise.
+const GROUPED: &str = "aag 7 3 0 1 4\n2\n4\n6\n14\n8 4 2\n10 6 3\n12 8 6\n14 13 11\n";
+
+const REGROUPED: &str = "aag 8 3 0 1 5\n2\n4\n6\n16\n8 4 2\n10 6 3\n12 6 4\n14 12 2\n16 15 11\n";
+
+// What is stored of them: gates with equal operands are derived from these, and the regrouped one from the gates that it rests on.
+const DERIVED: &str =
+    "seccert 2 k=1 signals=13 tie=0\nclass l4 r4\nclass l5 r5\nclass l6 r7\nclass l7 r8\nbase r4\n9 0 31 29 2 3 16 0\n0 31 32 14 15 30 4 0\nstep r4\n-18 22 0 30 31 44 0\n18 -22 0 42 43 32 0\n18 0 67 69 65 0\n0 67 70 68 66 0\nbase r5\n10 0 31 29 5 6 19 0\n0 31 32 17 18 30 7 0\nstep r5\n-19 23 0 33 34 47 0\n19 -23 0 45 46 35 0\n19 0 67 69 65 0\n0 67 70 68 66 0\nbase r7\n12 0 31 29 8 9 2 3 22 25 0\n0 31 32 23 24 30 20 21 10 4 0\nstep r7\n-20 25 0 36 37 30 31 50 53 0\n20 -25 0 51 52 48 49 38 32 0\n20 0 67 69 65 0\n0 67 70 68 66 0\nbase r8\n7 -12 0 23 24 20 21 10 4 0\n13 0 31 29 11 12 32 28 17 18 7 0\n-6 0 33 27 5 6 19 0\n0 31 33 26 30 34 13 8 9 2 3 22 25 0\nstep r8\n-19 23 0 33 34 47 0\n19 -23 0 45 46 35 0\n-20 25 0 36 37 30 31 50 53 0\n20 -25 0 51 52 48 49 38 32 0\n-21 26 0 39 40 71 69 56 0\n21 -26 0 54 55 70 68 41 0\n21 0 67 73 65 0\n0 67 74 72 66 0\nend\n";
+
+#[test]
+fn a_certificate_derives_places_from_lower_ones(rt: HostRuntime) -> Result<(), Fail> {
+    let alloc = rt.alloc();
+    let words = "sec check left right --cert made";
+    let out = "equivalent k=1 signals=13 classes=9\n";
+    let made = case(words, GROUPED, REGROUPED, 0, out, "");
+    assert!(rt; leaves(&rt, alloc, &made, "made", Some(DERIVED.as_bytes()))?);
+    Ok(())
+}
