@@ -59,9 +59,19 @@ pub no_step_path : (pair : Pair) (k : ℕ) (classes : Classes) (p : ℕ) (u : Un
 no_step_path pair k classes p u r f s stable lt eu er ef h = step_unseen pair k classes p s stable lt (found_as u (after_classes pair k classes) r (needed classes p) k k f (found.Path s) eu er ef h)
 
 -- a log that is accepted over the frames and the literals that were asked for
-pub step_derived : (pair : Pair) (k : ℕ) (classes : Classes) (p : ℕ) (u : Unrolling) (r : ℕ × ℕ) (o : Option (List Line)) (log : List Line) → u ≡ after_classes pair k classes → r ≡ needed classes p → o ≡ Some log
-    → IfSome o (IsAccepted (formula_of (asking u (asks r.0 r.1 k k)))) → IsAccepted (step_formula pair k classes p) log
-step_derived pair k classes p u r o log eu er eo h =
-    subst (λ (x : ℕ × ℕ). IsAccepted (formula_of (asking (after_classes pair k classes) (asks x.0 x.1 k k))) log) er
-    (subst (λ (v : Unrolling). IsAccepted (formula_of (asking v (asks r.0 r.1 k k))) log) eu
-    (subst (λ (q : Option (List Line)). IfSome q (IsAccepted (formula_of (asking u (asks r.0 r.1 k k))))) eo h))
+pub step_derived : (pair : Pair) (k t : ℕ) (classes : Classes) (p : ℕ) (u : Unrolling) (r : ℕ × ℕ) (o : Option (List Line)) (log : List Line) → t ≡ k → u ≡ after_classes pair k classes → r ≡ needed classes p → o ≡ Some log
+    → IfSome o (IsAccepted (formula_of (asking u (asks r.0 r.1 t t)))) → IsAccepted (step_formula pair k classes p) log
+step_derived pair k t classes p u r o log et eu er eo h =
+    subst (λ (n : ℕ). IsAccepted (formula_of (asking (after_classes pair k classes) (asks (needed classes p).0 (needed classes p).1 n n))) log) et
+    (subst (λ (x : ℕ × ℕ). IsAccepted (formula_of (asking (after_classes pair k classes) (asks x.0 x.1 t t))) log) er
+    (subst (λ (v : Unrolling). IsAccepted (formula_of (asking v (asks r.0 r.1 t t))) log) eu
+    (subst (λ (q : Option (List Line)). IfSome q (IsAccepted (formula_of (asking u (asks r.0 r.1 t t))))) eo h)))
+
+-- the same from reset, where that is one frame
+pub base_derived : (pair : Pair) (k : ℕ) (classes : Classes) (p : ℕ) (u : Unrolling) (r : ℕ × ℕ) (o : Option (List Line)) (log : List Line) → k ≡ 1 → u ≡ from_reset pair 1 → r ≡ needed classes p → o ≡ Some log
+    → IfSome o (IsAccepted (formula_of (asking u (asks r.0 r.1 0 0)))) → IsAccepted (base_formula pair k classes p) log
+base_derived pair k classes p u r o log one eu er eo h =
+    subst (λ (n : ℕ). IsAccepted (base_formula pair n classes p) log) (sym one)
+    (subst (λ (x : ℕ × ℕ). IsAccepted (formula_of (asking (from_reset pair 1) (asks x.0 x.1 0 0))) log) er
+    (subst (λ (v : Unrolling). IsAccepted (formula_of (asking v (asks r.0 r.1 0 0))) log) eu
+    (subst (λ (q : Option (List Line)). IfSome q (IsAccepted (formula_of (asking u (asks r.0 r.1 0 0))))) eo h)))

@@ -1,6 +1,6 @@
 //! Writing a certificate: the classes, and for each needed pair the logs of its two questions, which are solved again. The
-//! frames are made once, and lent to each question; the logs are trimmed. A log of the last frame is made of what lower places
-//! have derived, and checked; where it isn't accepted the question is asked on its own.
+//! frames are made once, and lent to each question; the logs are trimmed. A log of the last frame, and one from reset where that is a
+//! single frame, is made of what lower places have derived, and checked; where it isn't accepted the question is asked on its own.
 ghost use Rattle.std.specs.Prelude.{◌≡◌, ◌<◌, ◌≤◌, ◌/◌, ◌-◌, ◌++◌, ◌∷◌, ℕ, List, IfOk, IfSome, OnOk, None, decimal, length, true};
 ghost use Rattle.std.specs.List.{All};
 ghost use Rattle.circ_model.specs.Correspondence.{IsLiteral};
@@ -85,14 +85,16 @@ impl<'p> Model for Frames<'p> {
     ghost invariant = { λ f. AreFrames f.product.now f.k f.classes.now f.base f.step f.base_clauses f.step_clauses };
 }
 
-// The solvers of their questions, by the memory in which they are asked, what is derived in the last frame, and the frames that
-// a log is checked over.
+// The solvers of their questions, by the memory in which they are asked; what is derived in the last frame, and the frames that
+// a log is checked over; and the same for the first frame from reset.
 #[derive(Drop)]
 struct Solvers<'p> {
     base: Workspace,
     step: Workspace,
     lemmas: Lemmas,
     asked: Unrolled<'p>,
+    first: Lemmas,
+    resets: Unrolled<'p>,
 }
 
 // How many clauses frames have with a question over some of them, whichever its literals are.
@@ -216,6 +218,51 @@ fn with_base<'p>(
     }
 }
 
+// What is derived of the last of some frames, whose places begin past `base`: nothing yet.
+fn deriver_of<'p>(
+    alloc: Global,
+    frames: Unrolled<'p>,
+    places: u32,
+    base: u32,
+) -> Result<(Lemmas, Unrolled<'p>), AllocError>
+    ensures { IfOk result (λ r. r.1 ≡ frames.entry) }
+{
+    match Lemmas::new(alloc, frames.cnf(), places, base) {
+        Ok(lemmas) => Ok((lemmas, frames)),
+        Err(error) => {
+            drop(frames);
+            Err(error)
+        }
+    }
+}
+
+// Of the last frame of a step.
+fn step_deriver<'p>(
+    alloc: Global,
+    product: &'p Product,
+    k: u32,
+    classes: &Classes,
+) -> Result<(Lemmas, Unrolled<'p>), AllocError>
+    requires few { k ≤ 16 }
+    requires places { length classes.now.least ≡ places_of product.now }
+    ensures { IfOk result (λ r. r.1 ≡ after_classes product.entry.now k classes.now) }
+{
+    let frames = Unrolled::step_frames(alloc, product, k, classes)?;
+    let base = k.saturating_mul(product.len());
+    deriver_of(alloc, frames, product.len(), base)
+}
+
+// Of the first frame from reset.
+fn reset_deriver<'p>(
+    alloc: Global,
+    product: &'p Product,
+) -> Result<(Lemmas, Unrolled<'p>), AllocError>
+    ensures { IfOk result (λ r. r.1 ≡ from_reset product.entry.now 1) }
+{
+    let frames = Unrolled::reset_frames(alloc, product, 1)?;
+    deriver_of(alloc, frames, product.len(), 0)
+}
+
 // The solvers of their questions.
 fn solvers_of<'p>(
     alloc: Global,
@@ -225,18 +272,21 @@ fn solvers_of<'p>(
 ) -> Result<Solvers<'p>, AllocError>
     requires few { k ≤ 16 }
     requires places { length classes.now.least ≡ places_of product.now }
-    ensures { IfOk result (λ work. work.asked ≡ after_classes product.entry.now k classes.now) }
+    ensures asked { IfOk result (λ work. work.asked ≡ after_classes product.entry.now k classes.now) }
+    ensures resets { IfOk result (λ work. work.resets ≡ from_reset product.entry.now 1) }
 {
-    let asked = Unrolled::step_frames(alloc, product, k, classes)?;
-    let base = k.saturating_mul(product.len());
-    match Lemmas::new(alloc, asked.cnf(), product.len(), base) {
-        Ok(lemmas) => Ok(Solvers {
+    let (lemmas, asked) = step_deriver(alloc, product, k, classes)?;
+    match reset_deriver(alloc, product) {
+        Ok((first, resets)) => Ok(Solvers {
             base: Workspace::new(),
             step: Workspace::new(),
             lemmas,
             asked,
+            first,
+            resets,
         }),
         Err(error) => {
+            drop(lemmas);
             drop(asked);
             Err(error)
         }
@@ -337,25 +387,52 @@ fn accepted_in(
     }
 }
 
-// The log by what lower places have derived, where it is accepted.
+// The log of a question in frame t, by what lower places have derived there, where it is accepted.
 fn derived_log(
+    alloc: Global,
+    lemmas: &mut Lemmas,
+    asked: &mut Unrolled<'_>,
+    frames: &Frames<'_>,
+    t: u32,
+    place: u32,
+    question: (Lit, Lit),
+) -> Result<Option<Log>, AllocError>
+    requires none { asked.old.asked ≡ None }
+    requires left { IsLiteral asked.old.pair question.0 }
+    requires right { IsLiteral asked.old.pair question.1 }
+    requires within { t < asked.old.frames }
+    ensures log { IfOk result (λ o. IfSome o (IsAccepted (formula_of (asking asked.old (asks question.0 question.1 t t))))) }
+    ensures asked { IfOk result (λ o. asked.new ≡ asked.old) }
+{
+    let (a, b) = question;
+    let cells = frames.product.cells();
+    let log = lemmas.log_of(alloc, cells, frames.classes, place)?;
+    accepted_in(alloc, asked, a, b, t, log)
+}
+
+// The log from reset, by what lower places have derived where that is one frame, or on its own.
+fn reset_log(
     alloc: Global,
     work: &mut Solvers<'_>,
     frames: &Frames<'_>,
     place: u32,
-    a: Lit,
-    b: Lit,
-) -> Result<Option<Log>, AllocError>
-    requires none { work.old.asked.asked ≡ None }
-    requires left { IsLiteral work.old.asked.pair a }
-    requires right { IsLiteral work.old.asked.pair b }
-    requires within { frames.now.k < work.old.asked.frames }
-    ensures log { IfOk result (λ o. IfSome o (IsAccepted (formula_of (asking work.old.asked (asks a b frames.now.k frames.now.k))))) }
-    ensures asked { IfOk result (λ o. work.new.asked ≡ work.old.asked) }
+) -> Result<Log, AllocError>
+    requires resets { work.old.resets ≡ from_reset frames.now.pair 1 }
+    requires place { place < places_of frames.now.pair }
+    ensures accepted { IfOk result (IsAccepted (base_formula frames.now.pair frames.now.k frames.now.classes place)) }
+    ensures trimmed { IfOk result (IsTrimmed (length (base_formula frames.now.pair frames.now.k frames.now.classes place).clauses)) }
+    ensures asked { IfOk result (λ log. work.new.asked ≡ work.old.asked) }
+    ensures resets { IfOk result (λ log. work.new.resets ≡ work.old.resets) }
 {
-    let cells = frames.product.cells();
-    let log = work.lemmas.log_of(alloc, cells, frames.classes, place)?;
-    accepted_in(alloc, &mut work.asked, a, b, frames.k, log)
+    let _places = frames.product.len();
+    if frames.k == 1 {
+        let pair = frames.classes.needed(place);
+        let Solvers { first, resets, .. } = work;
+        if let Some(log) = derived_log(alloc, first, resets, frames, 0, place, pair)? {
+            return trim(alloc, frames.base_clauses, log);
+        }
+    }
+    base_log(alloc, &mut work.base, frames, place)
 }
 
 // The log of the last frame, by what lower places have derived or on its own.
@@ -370,10 +447,13 @@ fn last_log(
     ensures accepted { IfOk result (IsAccepted (step_formula frames.now.pair frames.now.k frames.now.classes place)) }
     ensures trimmed { IfOk result (IsTrimmed (length (step_formula frames.now.pair frames.now.k frames.now.classes place).clauses)) }
     ensures asked { IfOk result (λ log. work.new.asked ≡ work.old.asked) }
+    ensures resets { IfOk result (λ log. work.new.resets ≡ work.old.resets) }
 {
     let _places = frames.product.len();
-    let (a, b) = frames.classes.needed(place);
-    match derived_log(alloc, work, frames, place, a, b)? {
+    let pair = frames.classes.needed(place);
+    let k = frames.k;
+    let Solvers { lemmas, asked, .. } = work;
+    match derived_log(alloc, lemmas, asked, frames, k, place, pair)? {
         Some(log) => trim(alloc, frames.step_clauses, log),
         None => step_log(alloc, &mut work.step, frames, place),
     }
@@ -423,11 +503,13 @@ fn push_member(
     text: &mut Vec<u8>,
 ) -> Result<(), AllocError>
     requires asked { work.old.asked ≡ after_classes frames.now.pair frames.now.k frames.now.classes }
+    requires resets { work.old.resets ≡ from_reset frames.now.pair 1 }
     requires place { place < places_of frames.now.pair }
     ensures added { OnOk result (AddsMember frames.now.pair frames.now.k frames.now.classes place text.old.items text.new.items) }
     ensures asked { OnOk result (work.new.asked ≡ work.old.asked) }
+    ensures resets { OnOk result (work.new.resets ≡ work.old.resets) }
 {
-    let base = base_log(alloc, &mut work.base, frames, place)?;
+    let base = reset_log(alloc, work, frames, place)?;
     push_log(b"base ", frames, place, base, text)?;
     let step = last_log(alloc, work, frames, place)?;
     push_log(b"step ", frames, place, step, text)
@@ -441,6 +523,7 @@ fn push_members(
     text: &mut Vec<u8>,
 ) -> Result<(), AllocError>
     requires asked { work.old.asked ≡ after_classes frames.now.pair frames.now.k frames.now.classes }
+    requires resets { work.old.resets ≡ from_reset frames.now.pair 1 }
     ensures { OnOk result (AddsMembers frames.now.pair frames.now.k frames.now.classes text.old.items text.new.items) }
 {
     for place in 0..frames.product.len() {

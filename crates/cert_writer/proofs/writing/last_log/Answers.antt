@@ -12,9 +12,9 @@ returns-in-Some-clause-accepted c =
     let s = c.args.frames.now in
     let place : ℕ = c.args.place in
     let count = subst (λ (t : Certified). f.step_clauses ≡ length (step_formula t.pair t.k t.classes place).clauses) c.frames.view_is (c.frames.invariant.step_count place) in
-    let literals = c.needed-a.ensures ∙ ap (λ (t : Certified). needed t.classes place) c.frames.view_is in
+    let literals = c.needed-pair.ensures ∙ ap (λ (t : Certified). needed t.classes place) c.frames.view_is in
     trimmed_accepted (step_formula s.pair s.k s.classes place) f.step_clauses c.in-Some.log c.trim.result count
-    (step_derived s.pair s.k s.classes place c.args.work.now.asked c.needed-a.result _ c.in-Some.log c.requires.asked literals c.in-Some.is c.in_ok-log.ensures.log) c.trim.ensures.accepted
+    (step_derived s.pair s.k f.k s.classes place c.args.work.now.asked c.needed-pair.result _ c.in-Some.log (ap (λ (t : Certified). t.k) c.frames.view_is) c.requires.asked literals c.in-Some.is c.in_ok-log.ensures.log) c.trim.ensures.accepted
 
 pub returns-in-Some-clause-trimmed : goal.returns-in-Some-clause-trimmed
 returns-in-Some-clause-trimmed c =

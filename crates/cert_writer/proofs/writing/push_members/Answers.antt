@@ -1,7 +1,7 @@
 use Rattle.std.proofs.Common.{◌≡◌, ◌∙◌, ◌<◌, ◌≤◌, ◌+◌, ℕ, ap, arith, subst, sym}
 use Rattle.circ_model.specs.Meaning.{places_of}
 use Rattle.class_partition.specs.Classes.{least_of}
-use Rattle.frame_unroll.specs.Unrolled.{after_classes}
+use Rattle.frame_unroll.specs.Unrolled.{after_classes, from_reset}
 use Rattle.cert_writer.specs.Writing.{Certified}
 use Rattle.cert_writer.proofs.Adding.{SoFar, least_passed, member_added, all_added}
 use Rattle.cert_writer.proofs.writing.push_members.Goals as goal
@@ -23,6 +23,7 @@ loop-place-preserved c =
             text = subst (λ (v : _). SoFar pair c.args.frames.now.k classes (place + 1) c.args.text.now.items v.items) (sym w.text-is)
                 (member_added pair c.args.frames.now.k classes place c.args.text.now.items c.loop-place.text.items w.push_member.new.text.items lt apart c.loop-place.invariant.text w.in_ok-push_member.ensures.added);
             asked = subst (λ (v : _). v.asked ≡ after_classes pair c.args.frames.now.k classes) (sym w.work-is) (w.in_ok-push_member.ensures.asked ∙ c.loop-place.invariant.asked);
+            resets = subst (λ (v : _). v.resets ≡ from_reset pair 1) (sym w.work-is) (w.in_ok-push_member.ensures.resets ∙ c.loop-place.invariant.resets);
           }
       | else-rep-place w ↦
           let t = w.if-rep-place.false in
@@ -31,6 +32,7 @@ loop-place-preserved c =
             text = subst (λ (v : _). SoFar pair c.args.frames.now.k classes (place + 1) c.args.text.now.items v.items) (sym w.text-is)
                 (least_passed pair c.args.frames.now.k classes place c.args.text.now.items c.loop-place.text.items lt least c.loop-place.invariant.text);
             asked = subst (λ (v : _). v.asked ≡ after_classes pair c.args.frames.now.k classes) (sym w.work-is) c.loop-place.invariant.asked;
+            resets = subst (λ (v : _). v.resets ≡ from_reset pair 1) (sym w.work-is) c.loop-place.invariant.resets;
           }
     ]
 
