@@ -31,6 +31,12 @@ use sat_log::{Log, write_log};
 use std::alloc::{AllocError, Global};
 use std::marker::Model;
 
+// A derived log of so many lines isn't looked at again.
+const SHORT: u64 = 4;
+
+// A question from reset whose log has more lines was hard.
+const HARD: u64 = 100;
+
 // Adds a number after a word.
 fn push_field(word: &[u8], number: u32, text: &mut Vec<u8>) -> Result<(), AllocError>
     ensures { OnOk result (text.new.items ≡ text.old.items ++ (word.now ++ decimal number)) }
@@ -95,6 +101,8 @@ struct Solvers<'p> {
     asked: Unrolled<'p>,
     first: Lemmas,
     resets: Unrolled<'p>,
+    // whether a question from reset was hard
+    is_hard: bool,
 }
 
 // How many clauses frames have with a question over some of them, whichever its literals are.
@@ -284,6 +292,7 @@ fn solvers_of<'p>(
             asked,
             first,
             resets,
+            is_hard: false,
         }),
         Err(error) => {
             drop(lemmas);
@@ -410,7 +419,75 @@ fn derived_log(
     accepted_in(alloc, asked, a, b, t, log)
 }
 
-// The log from reset, by what lower places have derived where that is one frame, or on its own.
+// A log from reset, trimmed.
+fn trim_reset(alloc: Global, frames: &Frames<'_>, place: u32, log: Log) -> Result<Log, AllocError>
+    requires place { place < places_of frames.now.pair }
+    requires log { IsAccepted (base_formula frames.now.pair frames.now.k frames.now.classes place) log }
+    ensures accepted { IfOk result (IsAccepted (base_formula frames.now.pair frames.now.k frames.now.classes place)) }
+    ensures trimmed { IfOk result (IsTrimmed (length (base_formula frames.now.pair frames.now.k frames.now.classes place).clauses)) }
+{
+    trim(alloc, frames.base_clauses, log)
+}
+
+// The log from reset, trimmed, by what lower places have derived, where that is one frame and the log is accepted.
+fn derived_reset(
+    alloc: Global,
+    first: &mut Lemmas,
+    resets: &mut Unrolled<'_>,
+    frames: &Frames<'_>,
+    place: u32,
+) -> Result<Option<Log>, AllocError>
+    requires resets { resets.old ≡ from_reset frames.now.pair 1 }
+    requires place { place < places_of frames.now.pair }
+    ensures accepted { IfOk result (λ o. IfSome o (IsAccepted (base_formula frames.now.pair frames.now.k frames.now.classes place))) }
+    ensures trimmed { IfOk result (λ o. IfSome o (IsTrimmed (length (base_formula frames.now.pair frames.now.k frames.now.classes place).clauses))) }
+    ensures resets { IfOk result (λ o. resets.new ≡ resets.old) }
+{
+    let _places = frames.product.len();
+    if frames.k == 1 {
+        let pair = frames.classes.needed(place);
+        if let Some(log) = derived_log(alloc, first, resets, frames, 0, place, pair)? {
+            return Ok(Some(trim_reset(alloc, frames, place, log)?));
+        }
+    }
+    Ok(None)
+}
+
+// A log from reset, or the one that the question on its own comes to, where that has fewer lines.
+fn shorter_log(
+    alloc: Global,
+    work: &mut Solvers<'_>,
+    frames: &Frames<'_>,
+    place: u32,
+    log: Log,
+) -> Result<Log, AllocError>
+    requires place { place < places_of frames.now.pair }
+    requires accepted { IsAccepted (base_formula frames.now.pair frames.now.k frames.now.classes place) log }
+    requires trimmed { IsTrimmed (length (base_formula frames.now.pair frames.now.k frames.now.classes place).clauses) log }
+    ensures accepted { IfOk result (IsAccepted (base_formula frames.now.pair frames.now.k frames.now.classes place)) }
+    ensures trimmed { IfOk result (IsTrimmed (length (base_formula frames.now.pair frames.now.k frames.now.classes place).clauses)) }
+    ensures asked { work.new.asked ≡ work.old.asked }
+    ensures resets { work.new.resets ≡ work.old.resets }
+{
+    let own = match base_log(alloc, &mut work.base, frames, place) {
+        Ok(own) => own,
+        Err(error) => {
+            drop(log);
+            return Err(error);
+        }
+    };
+    work.is_hard = own.len() > HARD;
+    if own.len() < log.len() {
+        drop(log);
+        Ok(own)
+    } else {
+        drop(own);
+        Ok(log)
+    }
+}
+
+// The log from reset: by what lower places have derived, where that is one frame, or on its own. Where asking was hard once it is left
+// at what is derived.
 fn reset_log(
     alloc: Global,
     work: &mut Solvers<'_>,
@@ -424,15 +501,16 @@ fn reset_log(
     ensures asked { IfOk result (λ log. work.new.asked ≡ work.old.asked) }
     ensures resets { IfOk result (λ log. work.new.resets ≡ work.old.resets) }
 {
-    let _places = frames.product.len();
-    if frames.k == 1 {
-        let pair = frames.classes.needed(place);
-        let Solvers { first, resets, .. } = work;
-        if let Some(log) = derived_log(alloc, first, resets, frames, 0, place, pair)? {
-            return trim(alloc, frames.base_clauses, log);
+    let Solvers { first, resets, .. } = work;
+    match derived_reset(alloc, first, resets, frames, place)? {
+        Some(log) => {
+            if work.is_hard || log.len() <= SHORT {
+                return Ok(log);
+            }
+            shorter_log(alloc, work, frames, place, log)
         }
+        None => base_log(alloc, &mut work.base, frames, place),
     }
-    base_log(alloc, &mut work.base, frames, place)
 }
 
 // The log of the last frame, by what lower places have derived or on its own.

@@ -1,0 +1,13 @@
+use Rattle.std.proofs.Common.{◌∙◌, ℕ, ap, sym}
+use Rattle.class_partition.specs.Classes.{needed}
+use Rattle.cert_writer.specs.Writing.{Certified}
+use Rattle.cert_writer.proofs.Unseen.{base_derived}
+use Rattle.cert_writer.proofs.writing.derived_reset.Goals as goal
+
+pub trim_reset-requires-clause-log : goal.trim_reset-requires-clause-log
+trim_reset-requires-clause-log c =
+    let s = c.args.frames.now in
+    let place : ℕ = c.args.place in
+    let literals = c.needed-pair.ensures ∙ ap (λ (t : Certified). needed t.classes place) c.frames.view_is in
+    let one = sym (ap (λ (t : Certified). t.k) c.frames.view_is) ∙ c.if-frames-eq1.true in
+    base_derived s.pair s.k s.classes place c.args.resets.now c.needed-pair.result _ c.in-Some.log one c.requires.resets literals c.in-Some.is c.in_ok-log.ensures.log
