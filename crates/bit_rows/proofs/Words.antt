@@ -17,7 +17,7 @@ unfolding row_bits
 row_get ws n i h = get_or-map-range_with_len (word_bit ws) 0 n i i false h (omega arith)
 
 -- a list with the same bits
-row_is : (ws : List ℕ) (n : ℕ) (bs : List Bool) → length bs ≡ n → ((k : ℕ) → k < n → get_or bs k false ≡ word_bit ws k) → row_bits ws n ≡ bs
+pub row_is : (ws : List ℕ) (n : ℕ) (bs : List Bool) → length bs ≡ n → ((k : ℕ) → k < n → get_or bs k false ≡ word_bit ws k) → row_bits ws n ≡ bs
 unfolding row_bits
 row_is ws n bs h each = sym (fill_by_all (word_bit ws) bs n false h each)
 

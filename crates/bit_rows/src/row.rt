@@ -2,6 +2,7 @@
 //! the row's end means nothing.
 ghost use Rattle.std.specs.Prelude.{◌≡◌, ◌<◌, ◌≤◌, ◌+◌, ◌≢◌, ◌==◌, ℕ, false, length, slice_index_or, slice_set, replicate, IfOk};
 ghost use Rattle.std.specs.Int.{bit_at};
+ghost use Rattle.bit_rows.specs.Words.{row_bits, AreWordsFor};
 
 use std::alloc::{AllocError, Global};
 use std::marker::Model;
@@ -33,6 +34,15 @@ impl BitRow {
         let count = (len as usize + 63) / 64;
         let words = vec![in alloc; 0u64; count]?;
         Ok(BitRow { words, len })
+    }
+
+    /// The row of the first `len` bits of these words: bit `i` is bit `i % 64` of word `i / 64`. There are as many words as
+    /// these bits need; what the last one has past the end means nothing.
+    pub fn from_words(words: Vec<u64>, len: u32) -> BitRow
+        requires { AreWordsFor words.items len }
+        ensures { result ≡ row_bits words.items len }
+    {
+        BitRow { words, len }
     }
 
     /// The number of bits.
