@@ -3,3 +3,4 @@ pub mod GoingOn
 pub mod PathLanes
 pub mod Apart
 pub mod Copied
+pub mod Packed

@@ -1,6 +1,7 @@
 //! Rows that may split, 64 at once, kept beyond the classes that they were found under: a pair of any later version is tried on
 //! them in a few operations on words before anything is asked.
-ghost use Rattle.std.specs.Prelude.{◌≡◌, ◌≢◌, ◌<◌, ◌-◌, ◌^◌, ◌==◌, ℕ, Some, None, IsTrue, IfOk, length, if◌then◌else◌};
+ghost use Rattle.std.specs.Prelude.{◌≡◌, ◌≢◌, ◌<◌, ◌≤◌, ◌-◌, ◌^◌, ◌==◌, ℕ, Some, None, IsTrue, IfOk, length, slice_index, if◌then◌else◌};
+ghost use Rattle.bit_rows.specs.Words.{row_bits, AreWordsFor};
 ghost use Rattle.circ_model.specs.Meaning.{places_of};
 ghost use Rattle.circ_model.specs.Correspondence.{MaySplit};
 ghost use Rattle.class_partition.specs.Classes.{KeepsGreatest, least_of};
@@ -139,9 +140,8 @@ impl<'p> LaneRows<'p> {
         ensures size { IfOk result (λ r. length r ≡ places_of self.now.pair) }
         ensures may { IfOk result (λ r. MaySplit self.now.pair self.now.k r) }
     {
-        let mut row = BitRow::with_len(alloc, self.product.len())?;
-        write_lane(self.words.as_slice(), index, &mut row);
-        Ok(row)
+        let packed = packed_lane(alloc, self.words.as_slice(), index)?;
+        Ok(BitRow::from_words(packed, self.product.len()))
     }
 
     /// The pair of netlists.
@@ -230,14 +230,30 @@ fn copy_lane(words: &mut Vec<u64>, to: u32, others: &[u64], from: u32)
     }
 }
 
-// Writes a lane of words.
-fn write_lane(words: &[u64], index: u32, row: &mut BitRow)
+// The bits of a lane, 64 in each word.
+fn packed_lane(alloc: Global, words: &[u64], index: u32) -> Result<Vec<u64>, AllocError>
     requires lane { index < 64 }
-    requires size { length row.old ≡ length words.now }
-    ensures { row.new ≡ lane index words.now }
+    ensures size { IfOk result (λ packed. AreWordsFor packed.items (length words.now)) }
+    ensures bits { IfOk result (λ packed. row_bits packed.items (length words.now) ≡ lane index words.now) }
 {
-    for p in 0..row.len() {
-        let bit = (words[p as usize] >> index) & 1 == 1;
-        row.set(p, bit);
+    let count = (words.len() + 63) / 64;
+    let mut packed = Vec::with_capacity(alloc, count)?;
+    for i in 0..count {
+        let end = words.len().min(64 * i + 64);
+        packed.push(packed_word(&words[64 * i..end], index))?;
     }
+    Ok(packed)
+}
+
+// The word whose bits are those of a lane of at most 64 words.
+fn packed_word(words: &[u64], index: u32) -> u64
+    requires lane { index < 64 }
+    requires size { length words.now ≤ 64 }
+    ensures { (k : ℕ) → k < length words.now → lane_bit k result ≡ lane_bit index (slice_index words.now k) }
+{
+    let mut packed = 0;
+    for k in 0..words.len() {
+        packed |= ((words[k] >> index) & 1) << k;
+    }
+    packed
 }
