@@ -13,7 +13,7 @@ use sec_base::Shelf;
 use std::alloc::Global;
 
 /// What a pair of files was found to be.
-#[derive(Clone, Copy, Debug, PartialEq, Eq)]
+#[derive(Clone, Copy)]
 pub(crate) enum Loaded {
     /// The product at this place of the products.
     Product(usize),
@@ -29,7 +29,7 @@ pub(crate) struct Pairs {
 }
 
 /// Where loading stopped, and why.
-#[derive(Clone, Copy, Debug, PartialEq, Eq)]
+#[derive(Clone, Copy)]
 pub(crate) struct Stop {
     pub(crate) at: usize,
     pub(crate) why: Unpaired,

@@ -10,7 +10,7 @@ pub(crate) const MOST_WORKERS: u32 = 64;
 pub(crate) const MOST_SIZE: u32 = 100_000;
 
 /// The words of `check`.
-#[derive(Clone, Copy, Debug, PartialEq, Eq)]
+#[derive(Clone, Copy)]
 pub struct Check<'w> {
     pub left: &'w str,
     pub right: &'w str,
@@ -18,7 +18,7 @@ pub struct Check<'w> {
 }
 
 /// The options of `check`.
-#[derive(Clone, Copy, Debug, PartialEq, Eq)]
+#[derive(Clone, Copy)]
 pub struct CheckOptions<'w> {
     /// The depth of the induction.
     pub k: u32,
@@ -41,7 +41,7 @@ pub struct CheckOptions<'w> {
 }
 
 /// The words of `replay`.
-#[derive(Clone, Copy, Debug, PartialEq, Eq)]
+#[derive(Clone, Copy)]
 pub struct Replay<'w> {
     pub left: &'w str,
     pub right: &'w str,
@@ -51,7 +51,7 @@ pub struct Replay<'w> {
 }
 
 /// The words of `verify`.
-#[derive(Clone, Copy, Debug, PartialEq, Eq)]
+#[derive(Clone, Copy)]
 pub struct Verify<'w> {
     pub left: &'w str,
     pub right: &'w str,
@@ -61,7 +61,7 @@ pub struct Verify<'w> {
 }
 
 /// The words of `demo`.
-#[derive(Clone, Copy, Debug, PartialEq, Eq)]
+#[derive(Clone, Copy)]
 pub struct Demo {
     /// The size of the pair.
     pub n: u32,
@@ -72,7 +72,7 @@ pub struct Demo {
 }
 
 /// The words of `climb`.
-#[derive(Clone, Copy, Debug, PartialEq, Eq)]
+#[derive(Clone, Copy)]
 pub struct Climb<'w> {
     pub left: &'w str,
     pub right: &'w str,
@@ -85,7 +85,7 @@ pub struct Climb<'w> {
 }
 
 /// The words of `reduce`.
-#[derive(Clone, Copy, Debug, PartialEq, Eq)]
+#[derive(Clone, Copy)]
 pub struct Reduce<'w> {
     /// The netlist's file.
     pub net: &'w str,
@@ -100,7 +100,7 @@ pub struct Reduce<'w> {
 }
 
 /// The words of `batch`.
-#[derive(Clone, Copy, Debug, PartialEq, Eq)]
+#[derive(Clone, Copy)]
 pub struct Batch<'w> {
     /// The file that lists the pairs.
     pub list: &'w str,
@@ -111,7 +111,7 @@ pub struct Batch<'w> {
 }
 
 /// What the words of a run ask for.
-#[derive(Clone, Copy, Debug, PartialEq, Eq)]
+#[derive(Clone, Copy)]
 pub enum Command<'w> {
     Check(Check<'w>),
     Replay(Replay<'w>),

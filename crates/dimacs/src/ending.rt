@@ -5,7 +5,7 @@ ghost use Rattle.dimacs.specs.Endings.{status_of};
 use dimacs_text::DimacsFault;
 
 /// How a run over a file ended.
-#[derive(Clone, Copy, Debug, PartialEq, Eq)]
+#[derive(Clone, Copy)]
 pub enum Ending {
     /// Its formula is satisfiable, and the answer is written.
     Satisfiable,

@@ -5,7 +5,7 @@ ghost use Rattle.dimacs_text.specs.Words.{words, is_comment, is_cnf, count_word,
 use plain_text::{is_byte, next_piece, number_word};
 
 /// What a header says.
-#[derive(Clone, Copy, Debug, PartialEq, Eq)]
+#[derive(Clone, Copy)]
 pub struct Header {
     /// At most 2,147,483,647.
     pub vars: u32,

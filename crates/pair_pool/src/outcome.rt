@@ -2,7 +2,7 @@
 use std::marker::Model;
 
 /// Numbers of outputs. Contracts see them as a list.
-#[derive(Debug, Drop)]
+#[derive(Drop)]
 pub struct Outputs {
     numbers: Vec<u32>,
 }
@@ -34,7 +34,7 @@ impl Outputs {
 }
 
 /// The verdict of a pair.
-#[derive(Debug, Drop)]
+#[derive(Drop)]
 pub enum Outcome {
     /// Some run has unequal outputs: the least such frame, and the least such output in it.
     Different(u64, u32),

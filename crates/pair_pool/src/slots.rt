@@ -13,7 +13,7 @@ use std::sync::Wait;
 use std::thread::Threads;
 
 /// The place of a pair in the list, and its outcome.
-#[derive(Debug, Drop)]
+#[derive(Drop)]
 pub struct Solved {
     pub index: u32,
     pub outcome: Outcome,

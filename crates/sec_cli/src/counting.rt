@@ -7,7 +7,7 @@ use refine_board::{Journal, Step};
 use std::alloc::{AllocError, Global};
 
 /// How many entries of a journal are of each of these kinds.
-#[derive(Clone, Copy, Debug, PartialEq, Eq)]
+#[derive(Clone, Copy)]
 pub(crate) struct Stats {
     /// Pairs that were given to a worker.
     pub offers: u64,

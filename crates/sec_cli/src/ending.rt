@@ -23,7 +23,7 @@ pub struct Reply {
 }
 
 /// Why a run answers nothing.
-#[derive(Debug, Drop)]
+#[derive(Drop)]
 pub enum Refusal {
     /// There was no memory.
     Memory,

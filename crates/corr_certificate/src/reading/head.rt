@@ -7,7 +7,7 @@ use crate::reading::names::{number_of, strip};
 use plain_text::next_piece;
 
 /// The depth of the induction, how many signals there are, and whether the free latches are tied.
-#[derive(Clone, Copy, PartialEq, Eq)]
+#[derive(Clone, Copy)]
 pub struct Head {
     pub k: u32,
     pub signals: u32,
