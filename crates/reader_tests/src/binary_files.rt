@@ -34,34 +34,25 @@ fn outcome(alloc: Global, bytes: &[u8]) -> (&'static str, u64) {
 #[test]
 fn the_first_fault_is_answered_with_the_first_byte_of_its_item(rt: HostRuntime) {
     let alloc = rt.alloc();
-    let rows = [
-        (b"aig 1 0 0 0 1\n\x00\x00".as_slice(), ("order", 14)),
-        (b"aig 1 0 0 0 1\n\x03\x00".as_slice(), ("order", 14)),
-        (b"aig 1 0 0 0 1\n\x01\x02".as_slice(), ("order", 14)),
-        (b"aig 1 0 0 0 1\n\x02\x00".as_slice(), ("gates", 16)),
-        (b"aig 1 0 0 0 1\n\x01\x01".as_slice(), ("gates", 16)),
-        (b"aig 1 0 0 0 1\n\x82\x00\x80\x00".as_slice(), ("gates", 18)),
-        (b"aig 1 0 0 0 1\n\x82".as_slice(), ("truncated", 14)),
-        (b"aig 1 0 0 0 1\n\x02\x80".as_slice(), ("truncated", 14)),
-        (
-            b"aig 1 0 0 0 1\n\xff\xff\xff\xff\x1f\x00".as_slice(),
-            ("line", 14),
-        ),
-        (
-            b"aig 1 0 0 0 1\n\x02\x80\x80\x80\x80\x80".as_slice(),
-            ("line", 14),
-        ),
-        (b"aig 1 0 1 0 0\n4\n".as_slice(), ("literal", 14)),
-        (b"aig 1 0 1 0 0\n2 3\n".as_slice(), ("reset", 14)),
-        (b"aig 1 0 1 0 0\n2 2 2\n".as_slice(), ("line", 14)),
-        (b"aig 1 0 1 0 0\n2 2".as_slice(), ("truncated", 14)),
-        (b"aig 1 1 0 2 0\n2\n4\n".as_slice(), ("literal", 16)),
-        (
-            b"aig 3 1 1 1 1\n7 1\n6\n\x02\x02c".as_slice(),
-            ("gates", 22),
-        ),
+    const ROWS: &[(&[u8], (&str, u64))] = &[
+        (b"aig 1 0 0 0 1\n\x00\x00", ("order", 14)),
+        (b"aig 1 0 0 0 1\n\x03\x00", ("order", 14)),
+        (b"aig 1 0 0 0 1\n\x01\x02", ("order", 14)),
+        (b"aig 1 0 0 0 1\n\x02\x00", ("gates", 16)),
+        (b"aig 1 0 0 0 1\n\x01\x01", ("gates", 16)),
+        (b"aig 1 0 0 0 1\n\x82\x00\x80\x00", ("gates", 18)),
+        (b"aig 1 0 0 0 1\n\x82", ("truncated", 14)),
+        (b"aig 1 0 0 0 1\n\x02\x80", ("truncated", 14)),
+        (b"aig 1 0 0 0 1\n\xff\xff\xff\xff\x1f\x00", ("line", 14)),
+        (b"aig 1 0 0 0 1\n\x02\x80\x80\x80\x80\x80", ("line", 14)),
+        (b"aig 1 0 1 0 0\n4\n", ("literal", 14)),
+        (b"aig 1 0 1 0 0\n2 3\n", ("reset", 14)),
+        (b"aig 1 0 1 0 0\n2 2 2\n", ("line", 14)),
+        (b"aig 1 0 1 0 0\n2 2", ("truncated", 14)),
+        (b"aig 1 1 0 2 0\n2\n4\n", ("literal", 16)),
+        (b"aig 3 1 1 1 1\n7 1\n6\n\x02\x02c", ("gates", 22)),
     ];
-    for (bytes, wanted) in rows {
+    for &(bytes, wanted) in ROWS {
         assert!(rt; outcome(alloc, bytes) == wanted);
     }
 }

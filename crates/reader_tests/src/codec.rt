@@ -6,20 +6,20 @@ use std::test::Fail;
 
 #[test]
 fn the_first_fault_of_a_header_is_answered(rt: HostRuntime) -> Result<(), Fail> {
-    let files = [
-        (b"abc".as_slice(), NetKind::Header),
-        (b"aag 0 0 0 0 0 1\n".as_slice(), NetKind::Bad),
-        (b"aag 0 0 0 0 0 0 1\n".as_slice(), NetKind::Constraint),
-        (b"aag 0 0 0 0 0 0 0 1\n".as_slice(), NetKind::Justice),
-        (b"aag 0 0 0 0 0 0 0 0 1\n".as_slice(), NetKind::Fairness),
-        (b"aag 1000001 0 0 0 0\n".as_slice(), NetKind::Limit),
-        (b"aag 1 1 1 0 0\n".as_slice(), NetKind::Count),
-        (b"aig 1 0 0 0 0\n".as_slice(), NetKind::Count),
-        (b"aag 1 1 0 1 0".as_slice(), NetKind::Truncated),
-        (b"aag 1 1  0 1 0\n".as_slice(), NetKind::Header),
-        (b"aag 1 1 0 1\n".as_slice(), NetKind::Header),
+    const FILES: &[(&[u8], NetKind)] = &[
+        (b"abc", NetKind::Header),
+        (b"aag 0 0 0 0 0 1\n", NetKind::Bad),
+        (b"aag 0 0 0 0 0 0 1\n", NetKind::Constraint),
+        (b"aag 0 0 0 0 0 0 0 1\n", NetKind::Justice),
+        (b"aag 0 0 0 0 0 0 0 0 1\n", NetKind::Fairness),
+        (b"aag 1000001 0 0 0 0\n", NetKind::Limit),
+        (b"aag 1 1 1 0 0\n", NetKind::Count),
+        (b"aig 1 0 0 0 0\n", NetKind::Count),
+        (b"aag 1 1 0 1 0", NetKind::Truncated),
+        (b"aag 1 1  0 1 0\n", NetKind::Header),
+        (b"aag 1 1 0 1\n", NetKind::Header),
     ];
-    for (bytes, kind) in files {
+    for &(bytes, kind) in FILES {
         assert!(rt; read_header(bytes) == Err(NetFault { kind, at: 0 }));
     }
     let header = Header {
@@ -39,15 +39,15 @@ fn the_first_fault_of_a_header_is_answered(rt: HostRuntime) -> Result<(), Fail> 
 #[test]
 fn numbers_are_read_at_their_places(rt: HostRuntime) -> Result<(), Fail> {
     let bytes = b"12 007x99999999999";
-    let spelled = [
+    const SPELLED: &[(u64, Option<(u32, u64)>)] = &[
         (0, Some((12, 2))),
         (1, Some((2, 2))),
         (2, None),
         (3, Some((7, 6))),
-        (7, Some((4294967295u32, 18u64))),
+        (7, Some((4294967295, 18))),
         (18, None),
     ];
-    for (at, number) in spelled {
+    for &(at, number) in SPELLED {
         assert!(rt; read_number(bytes, at) == number);
     }
     Ok(())
@@ -62,16 +62,17 @@ fn is_written(alloc: Global, n: u32, bytes: &[u8]) -> Result<bool, AllocError> {
 
 #[test]
 fn binary_numbers_are_written_and_read(rt: HostRuntime) -> Result<(), Fail> {
-    for (n, bytes) in [
-        (0u32, b"\x00".as_slice()),
-        (2, b"\x02".as_slice()),
-        (127, b"\x7f".as_slice()),
-        (128, b"\x80\x01".as_slice()),
-        (300, b"\xac\x02".as_slice()),
-        (16383, b"\xff\x7f".as_slice()),
-        (16384, b"\x80\x80\x01".as_slice()),
-        (4294967295, b"\xff\xff\xff\xff\x0f".as_slice()),
-    ] {
+    const SPELLED: &[(u32, &[u8])] = &[
+        (0, b"\x00"),
+        (2, b"\x02"),
+        (127, b"\x7f"),
+        (128, b"\x80\x01"),
+        (300, b"\xac\x02"),
+        (16383, b"\xff\x7f"),
+        (16384, b"\x80\x80\x01"),
+        (4294967295, b"\xff\xff\xff\xff\x0f"),
+    ];
+    for &(n, bytes) in SPELLED {
         assert!(rt; is_written(rt.alloc(), n, bytes)?);
         assert!(rt; read_delta(bytes, 0) == Delta::Value(n, bytes.len() as u64));
     }
@@ -80,17 +81,18 @@ fn binary_numbers_are_written_and_read(rt: HostRuntime) -> Result<(), Fail> {
 
 #[test]
 fn binary_numbers_are_read_at_their_places(rt: HostRuntime) -> Result<(), Fail> {
-    for (bytes, at, read) in [
-        (b"\x00\x7f\x80\x01".as_slice(), 1, Delta::Value(127, 2)),
-        (b"\x00\x7f\x80\x01".as_slice(), 2, Delta::Value(128, 4)),
-        (b"\x80\x00".as_slice(), 0, Delta::Value(0, 2)),
-        (b"\x80\x80".as_slice(), 0, Delta::Cut),
-        (b"".as_slice(), 0, Delta::Cut),
-        (b"\x80\x80\x80\x80\x80\x00".as_slice(), 0, Delta::Wide),
-        (b"\x80\x80\x80\x80\x10".as_slice(), 0, Delta::Wide),
-        (b"\xff\xff\xff\xff\x1f".as_slice(), 0, Delta::Wide),
-        (b"\x80\x80\x80\x80\x80".as_slice(), 0, Delta::Wide),
-    ] {
+    const SPELLED: &[(&[u8], u64, Delta)] = &[
+        (b"\x00\x7f\x80\x01", 1, Delta::Value(127, 2)),
+        (b"\x00\x7f\x80\x01", 2, Delta::Value(128, 4)),
+        (b"\x80\x00", 0, Delta::Value(0, 2)),
+        (b"\x80\x80", 0, Delta::Cut),
+        (b"", 0, Delta::Cut),
+        (b"\x80\x80\x80\x80\x80\x00", 0, Delta::Wide),
+        (b"\x80\x80\x80\x80\x10", 0, Delta::Wide),
+        (b"\xff\xff\xff\xff\x1f", 0, Delta::Wide),
+        (b"\x80\x80\x80\x80\x80", 0, Delta::Wide),
+    ];
+    for &(bytes, at, read) in SPELLED {
         assert!(rt; read_delta(bytes, at) == read);
     }
     Ok(())

@@ -68,48 +68,43 @@ fn chain(alloc: Global) -> Result<Netlist, BuildFault> {
 
 #[test]
 fn each_refusal_comes_where_its_rule_is_the_first_to_fail(rt: HostRuntime) {
-    for (max_var, output, calls, wanted) in [
-        (1, 0, [Call::Input(0)].as_slice(), ("literal", 0)),
-        (1, 4, [].as_slice(), ("literal", 0)),
+    const ROWS: &[(u8, u32, &[Call], (&str, usize))] = &[
+        (1, 0, &[Call::Input(0)], ("literal", 0)),
+        (1, 4, &[], ("literal", 0)),
         (
             1,
             3,
-            [Call::Input(1), Call::Latch(1, 4, 3)].as_slice(),
+            &[Call::Input(1), Call::Latch(1, 4, 3)],
             ("literal", 0),
         ),
-        (
-            2,
-            0,
-            [Call::Input(1), Call::Input(1)].as_slice(),
-            ("redefined", 0),
-        ),
+        (2, 0, &[Call::Input(1), Call::Input(1)], ("redefined", 0)),
         (
             1,
             0,
-            [Call::Input(1), Call::Latch(1, 0, 3)].as_slice(),
+            &[Call::Input(1), Call::Latch(1, 0, 3)],
             ("redefined", 0),
         ),
-        (1, 0, [Call::Latch(1, 2, 3)].as_slice(), ("reset", 0)),
-        (3, 4, [Call::Latch(1, 7, 2)].as_slice(), ("undefined", 2)),
+        (1, 0, &[Call::Latch(1, 2, 3)], ("reset", 0)),
+        (3, 4, &[Call::Latch(1, 7, 2)], ("undefined", 2)),
         (
             2,
             2,
-            [Call::Gate(1, 4, 4), Call::Gate(2, 2, 2)].as_slice(),
+            &[Call::Gate(1, 4, 4), Call::Gate(2, 2, 2)],
             ("cyclic", 0),
         ),
         (
             3,
             2,
-            [
+            &[
                 Call::Gate(1, 4, 6),
                 Call::Gate(3, 4, 4),
                 Call::Latch(2, 2, 1),
-            ]
-            .as_slice(),
+            ],
             ("netlist", 2),
         ),
-    ] {
-        assert!(rt; outcome(rt.alloc(), max_var, output, calls) == wanted);
+    ];
+    for &(max_var, output, calls, wanted) in ROWS {
+        assert!(rt; outcome(rt.alloc(), u32::from(max_var), output, calls) == wanted);
     }
 }
 

@@ -33,23 +33,21 @@ fn outcome(alloc: Global, bytes: &[u8]) -> (&'static str, u64) {
 
 #[test]
 fn the_first_fault_is_answered_with_the_first_byte_of_its_line(rt: HostRuntime) {
-    for (bytes, wanted) in [
-        (b"aag 1 1 0 1 0\n2\n2 2\n".as_slice(), ("line", 16)),
-        (b"aag 1 1 0 1 0\n2\n".as_slice(), ("truncated", 16)),
-        (b"aag 1 1 0 1 0\n3\n2\n".as_slice(), ("literal", 14)),
-        (b"aag 2 2 0 0 0\n2\n2\n".as_slice(), ("redefined", 16)),
-        (b"aag 1 0 1 0 0\n2 2 3\n".as_slice(), ("reset", 14)),
-        (b"aag 2 1 0 1 0\n2\n4\n".as_slice(), ("undefined", 0)),
+    const ROWS: &[(&[u8], (&str, u64))] = &[
+        (b"aag 1 1 0 1 0\n2\n2 2\n", ("line", 16)),
+        (b"aag 1 1 0 1 0\n2\n", ("truncated", 16)),
+        (b"aag 1 1 0 1 0\n3\n2\n", ("literal", 14)),
+        (b"aag 2 2 0 0 0\n2\n2\n", ("redefined", 16)),
+        (b"aag 1 0 1 0 0\n2 2 3\n", ("reset", 14)),
+        (b"aag 2 1 0 1 0\n2\n4\n", ("undefined", 0)),
+        (b"aag 2 0 0 1 2\n2\n2 4 4\n4 2 2\n", ("cyclic", 0)),
         (
-            b"aag 2 0 0 1 2\n2\n2 4 4\n4 2 2\n".as_slice(),
-            ("cyclic", 0),
-        ),
-        (
-            b"aag 5 2 2 1 1\n2\n4\n6 2\n8 4 8\n10\n10 6 9\n".as_slice(),
+            b"aag 5 2 2 1 1\n2\n4\n6 2\n8 4 8\n10\n10 6 9\n",
             ("gates", 1),
         ),
-        (b"aag 1 0 1 1 0\n2 3\n2\nc\n".as_slice(), ("more bytes", 20)),
-    ] {
+        (b"aag 1 0 1 1 0\n2 3\n2\nc\n", ("more bytes", 20)),
+    ];
+    for &(bytes, wanted) in ROWS {
         assert!(rt; outcome(rt.alloc(), bytes) == wanted);
     }
 }

@@ -18,7 +18,7 @@ fn outcome(alloc: Global, bytes: &[u8]) -> (&'static str, u64) {
 #[test]
 fn each_kind_of_fault_is_answered_at_its_first_byte(rt: HostRuntime) -> Result<(), Fail> {
     let alloc = rt.alloc();
-    let rows = [
+    const ROWS: &[(&str, &str, u64)] = &[
         ("abc\n", "header", 0),
         ("aag 0 0 0 0 0 1\n", "section bad", 0),
         ("aag 0 0 0 0 0 0 1\n", "section constraint", 0),
@@ -43,8 +43,8 @@ fn each_kind_of_fault_is_answered_at_its_first_byte(rt: HostRuntime) -> Result<(
         ),
         ("aag 2 1 0 1 1\n2\n4\n4 2 2\ni0 \ni0 twice\nc", "gates", 1),
     ];
-    for (text, kind, at) in rows.iter() {
-        assert!(rt; outcome(alloc, text.as_bytes()) == (*kind, *at));
+    for &(text, kind, at) in ROWS {
+        assert!(rt; outcome(alloc, text.as_bytes()) == (kind, at));
     }
     Ok(())
 }
@@ -68,33 +68,21 @@ fn a_file_that_is_cut_is_truncated_where_its_line_begins(rt: HostRuntime) -> Res
 #[test]
 fn binary_files_are_read_as_text_files_are(rt: HostRuntime) -> Result<(), Fail> {
     let alloc = rt.alloc();
-    let rows = [
-        (b"aig 1 0 0 0 1\n\x00\x00".as_slice(), ("order", 14)),
-        (b"aig 4 2 1 1 1\n8\n6\n\x04\x02".as_slice(), ("gates", 1)),
-        (
-            b"aig 4 2 1 1 1\n8\n6\n\x84\x00\x02".as_slice(),
-            ("gates", 1),
-        ),
-        (b"aig 4 2 1 1 1\n8\n6\n\x08\x00".as_slice(), ("gates", 1)),
-        (b"aig 4 2 1 1 1\n8\n6\n\x04\x05".as_slice(), ("order", 18)),
-        (
-            b"aig 4 2 1 1 1\n8\n6\n\x04\x02i1 x\nl0 y\nc".as_slice(),
-            ("gates", 1),
-        ),
-        (
-            b"aig 4 2 1 1 1\n8\n6\n\x04\x02l1 y\n".as_slice(),
-            ("symbol", 20),
-        ),
-        (b"aig 4 2 1 0 1\n8\n\x04\x02x".as_slice(), ("truncated", 18)),
-        (b"aig 4 2 1 0 0\n8\n".as_slice(), ("count", 0)),
-        (b"aig 300 300 0 1 0\n600\n".as_slice(), ("gates", 0)),
-        (
-            b"aig 301 300 0 1 1\n602\n\x02\xd6\x04".as_slice(),
-            ("gates", 1),
-        ),
-        (b"aig 0 0 0 0 0 0 1\n".as_slice(), ("section constraint", 0)),
+    const ROWS: &[(&[u8], (&str, u64))] = &[
+        (b"aig 1 0 0 0 1\n\x00\x00", ("order", 14)),
+        (b"aig 4 2 1 1 1\n8\n6\n\x04\x02", ("gates", 1)),
+        (b"aig 4 2 1 1 1\n8\n6\n\x84\x00\x02", ("gates", 1)),
+        (b"aig 4 2 1 1 1\n8\n6\n\x08\x00", ("gates", 1)),
+        (b"aig 4 2 1 1 1\n8\n6\n\x04\x05", ("order", 18)),
+        (b"aig 4 2 1 1 1\n8\n6\n\x04\x02i1 x\nl0 y\nc", ("gates", 1)),
+        (b"aig 4 2 1 1 1\n8\n6\n\x04\x02l1 y\n", ("symbol", 20)),
+        (b"aig 4 2 1 0 1\n8\n\x04\x02x", ("truncated", 18)),
+        (b"aig 4 2 1 0 0\n8\n", ("count", 0)),
+        (b"aig 300 300 0 1 0\n600\n", ("gates", 0)),
+        (b"aig 301 300 0 1 1\n602\n\x02\xd6\x04", ("gates", 1)),
+        (b"aig 0 0 0 0 0 0 1\n", ("section constraint", 0)),
     ];
-    for (bytes, wanted) in rows {
+    for &(bytes, wanted) in ROWS {
         assert!(rt; outcome(alloc, bytes) == wanted);
     }
     Ok(())
@@ -154,17 +142,17 @@ fn read_as(alloc: Global, bytes: &[u8]) -> Result<Vec<u8>, AllocError> {
 #[test]
 fn a_netlist_is_written_as_text(rt: HostRuntime) -> Result<(), Fail> {
     let alloc = rt.alloc();
-    let rows = [
+    const ROWS: &[(&[u8], &str)] = &[
         (
-            b"aig 4 2 1 1 1\n8\n6\n\x04\x02".as_slice(),
+            b"aig 4 2 1 1 1\n8\n6\n\x04\x02",
             "aag 4 2 1 1 1\n2\n4\n6 8\n6\n8 4 2\n",
         ),
         (
-            b"aag 9 1 3 2 1\n02\n4 3 4\n6 1 1\n8 18 0\n5\n0\n18 4 2\nc".as_slice(),
+            b"aag 9 1 3 2 1\n02\n4 3 4\n6 1 1\n8 18 0\n5\n0\n18 4 2\nc",
             "aag 9 1 3 2 1\n2\n4 3 4\n6 1 1\n8 18\n5\n0\n18 4 2\n",
         ),
     ];
-    for (bytes, wanted) in rows {
+    for &(bytes, wanted) in ROWS {
         let text = read_as(alloc, bytes)?;
         assert!(rt; text.as_slice() == wanted.as_bytes());
     }
@@ -182,21 +170,21 @@ fn read_as_binary(alloc: Global, bytes: &[u8]) -> Result<Vec<u8>, AllocError> {
 #[test]
 fn a_netlist_is_written_as_binary(rt: HostRuntime) -> Result<(), Fail> {
     let alloc = rt.alloc();
-    let rows = [
+    const ROWS: &[(&[u8], &[u8])] = &[
         (
-            b"aag 9 1 3 2 1\n2\n4 3 4\n6 1 1\n8 18 0\n5\n0\n18 2 5\nc".as_slice(),
-            b"aig 5 1 3 2 1\n3 4\n1 1\n10\n5\n0\n\x05\x03".as_slice(),
+            b"aag 9 1 3 2 1\n2\n4 3 4\n6 1 1\n8 18 0\n5\n0\n18 2 5\nc",
+            b"aig 5 1 3 2 1\n3 4\n1 1\n10\n5\n0\n\x05\x03",
         ),
         (
-            b"aag 5 2 2 1 1\n2\n4\n6 2\n8 4\n10\n10 6 8\n".as_slice(),
-            b"aig 5 2 2 1 1\n2\n4\n10\n\x02\x02".as_slice(),
+            b"aag 5 2 2 1 1\n2\n4\n6 2\n8 4\n10\n10 6 8\n",
+            b"aig 5 2 2 1 1\n2\n4\n10\n\x02\x02",
         ),
         (
-            b"aag 8 2 0 1 2\n12\n4\n7\n16 12 4\n6 16 13\n".as_slice(),
-            b"aig 4 2 0 1 2\n9\n\x02\x02\x02\x03".as_slice(),
+            b"aag 8 2 0 1 2\n12\n4\n7\n16 12 4\n6 16 13\n",
+            b"aig 4 2 0 1 2\n9\n\x02\x02\x02\x03",
         ),
     ];
-    for (text, wanted) in rows {
+    for &(text, wanted) in ROWS {
         let bytes = read_as_binary(alloc, text)?;
         assert!(rt; bytes.as_slice() == wanted);
     }
@@ -216,8 +204,8 @@ fn changed(alloc: Global, whole: &[u8], place: usize, byte: u8) -> Result<Vec<u8
 fn one_byte_changed_in_a_text_file(rt: HostRuntime) -> Result<(), Fail> {
     let alloc = rt.alloc();
     let whole = b"aag 1 0 1 1 0\n2 3\n2\n".as_slice();
-    let refused = [
-        (0usize, b'b', "header", 0u64),
+    const REFUSED: &[(usize, u8, &str, u64)] = &[
+        (0, b'b', "header", 0),
         (1, b'i', "reset", 14),
         (2, b'f', "header", 0),
         (3, b'x', "header", 0),
@@ -251,18 +239,18 @@ fn one_byte_changed_in_a_text_file(rt: HostRuntime) -> Result<(), Fail> {
         (19, b'0', "truncated", 18),
         (19, b' ', "truncated", 18),
     ];
-    for (place, byte, kind, at) in refused {
+    for &(place, byte, kind, at) in REFUSED {
         let bytes = changed(alloc, whole, place, byte)?;
         assert!(rt; outcome(alloc, bytes.as_slice()) == (kind, at));
     }
-    let accepted = [
-        (4usize, b'2', "aag 2 0 1 1 0\n2 3\n2\n"),
+    const ACCEPTED: &[(usize, u8, &str)] = &[
+        (4, b'2', "aag 2 0 1 1 0\n2 3\n2\n"),
         (16, b'0', "aag 1 0 1 1 0\n2 0\n2\n"),
         (16, b'2', "aag 1 0 1 1 0\n2 2\n2\n"),
         (18, b'0', "aag 1 0 1 1 0\n2 3\n0\n"),
         (18, b'3', "aag 1 0 1 1 0\n2 3\n3\n"),
     ];
-    for (place, byte, wanted) in accepted {
+    for &(place, byte, wanted) in ACCEPTED {
         let bytes = changed(alloc, whole, place, byte)?;
         let text = read_as(alloc, bytes.as_slice())?;
         assert!(rt; text.as_slice() == wanted.as_bytes());
@@ -274,8 +262,8 @@ fn one_byte_changed_in_a_text_file(rt: HostRuntime) -> Result<(), Fail> {
 fn one_byte_changed_in_a_binary_file(rt: HostRuntime) -> Result<(), Fail> {
     let alloc = rt.alloc();
     let whole = b"aig 4 2 1 1 1\n8\n6\n\x04\x02".as_slice();
-    let refused = [
-        (0usize, b'b', "header", 0u64),
+    const REFUSED: &[(usize, u8, &str, u64)] = &[
+        (0, b'b', "header", 0),
         (1, b'a', "truncated", 18),
         (2, b'f', "header", 0),
         (3, b'x', "header", 0),
@@ -299,27 +287,27 @@ fn one_byte_changed_in_a_binary_file(rt: HostRuntime) -> Result<(), Fail> {
         (16, b'x', "line", 16),
         (16, b'\n', "line", 16),
         (17, b' ', "truncated", 16),
-        (18, 0u8, "order", 18),
+        (18, 0, "order", 18),
         (18, 8, "order", 18),
         (18, 9, "order", 18),
         (18, 132, "truncated", 18),
         (19, 5, "order", 18),
         (19, 130, "truncated", 18),
     ];
-    for (place, byte, kind, at) in refused {
+    for &(place, byte, kind, at) in REFUSED {
         let bytes = changed(alloc, whole, place, byte)?;
         assert!(rt; outcome(alloc, bytes.as_slice()) == (kind, at));
     }
-    let accepted = [
-        (14usize, b'7', "aag 4 2 1 1 1\n2\n4\n6 7\n6\n8 4 2\n"),
+    const ACCEPTED: &[(usize, u8, &str)] = &[
+        (14, b'7', "aag 4 2 1 1 1\n2\n4\n6 7\n6\n8 4 2\n"),
         (14, b'9', "aag 4 2 1 1 1\n2\n4\n6 9\n6\n8 4 2\n"),
         (16, b'9', "aag 4 2 1 1 1\n2\n4\n6 8\n9\n8 4 2\n"),
-        (18, 1u8, "aag 4 2 1 1 1\n2\n4\n6 8\n6\n8 7 5\n"),
+        (18, 1, "aag 4 2 1 1 1\n2\n4\n6 8\n6\n8 7 5\n"),
         (18, 6, "aag 4 2 1 1 1\n2\n4\n6 8\n6\n8 2 0\n"),
         (19, 0, "aag 4 2 1 1 1\n2\n4\n6 8\n6\n8 4 4\n"),
         (19, 4, "aag 4 2 1 1 1\n2\n4\n6 8\n6\n8 4 0\n"),
     ];
-    for (place, byte, wanted) in accepted {
+    for &(place, byte, wanted) in ACCEPTED {
         let bytes = changed(alloc, whole, place, byte)?;
         let text = read_as(alloc, bytes.as_slice())?;
         assert!(rt; text.as_slice() == wanted.as_bytes());
