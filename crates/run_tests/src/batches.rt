@@ -19,20 +19,19 @@ fn batch(
 
 #[test]
 fn each_pair_of_a_list_has_a_line(rt: HostRuntime) -> Result<(), Fail> {
-    let alloc = rt.alloc();
-    let three = "left left\nleft right\nleft trace\n";
-    let lines =
+    const THREE: &str = "left left\nleft right\nleft trace\n";
+    const LINES: &str =
         "1 equivalent k=1 signals=3 classes=2\n2 undecided k=1 signals=2 classes=2 unpaired=0\n3 sec: trace: header at byte 0\n";
-    let two = "1 different k=2 frame=1 output=0\n2 equivalent k=2 signals=3 classes=2\n";
-    for (words, list, status, out) in [
-        ("sec batch trace", three, 4, lines),
-        ("sec batch trace -j 3", three, 4, lines),
-        ("sec batch trace -k 2", "left right\nleft left\n", 1, two),
+    const TWO: &str = "1 different k=2 frame=1 output=0\n2 equivalent k=2 signals=3 classes=2\n";
+    const LISTS: &[(&str, &str, u8, &str)] = &[
+        ("sec batch trace", THREE, 4, LINES),
+        ("sec batch trace -j 3", THREE, 4, LINES),
+        ("sec batch trace -k 2", "left right\nleft left\n", 1, TWO),
         (
             "sec batch trace -j 64 -k 2",
             "left right\nleft left\n",
             1,
-            two,
+            TWO,
         ),
         (
             "sec batch trace",
@@ -41,7 +40,9 @@ fn each_pair_of_a_list_has_a_line(rt: HostRuntime) -> Result<(), Fail> {
             "1 undecided k=1 signals=2 classes=2 unpaired=0\n",
         ),
         ("sec batch trace", "", 0, ""),
-    ] {
+    ];
+    let alloc = rt.alloc();
+    for &(words, list, status, out) in LISTS {
         assert!(rt;
             answers_so(&rt, alloc, &batch(words, LOW, list, status, out, ""))?,
             "{words}"
@@ -67,8 +68,7 @@ fn each_pair_of_a_list_has_a_line(rt: HostRuntime) -> Result<(), Fail> {
 
 #[test]
 fn a_list_or_a_file_may_end_the_batch(rt: HostRuntime) -> Result<(), Fail> {
-    let alloc = rt.alloc();
-    for (words, list, status, err) in [
+    const ENDINGS: &[(&str, &str, u8, &str)] = &[
         ("sec batch none", "", 5, "sec: none: read failed\n"),
         (
             "sec batch trace",
@@ -88,7 +88,9 @@ fn a_list_or_a_file_may_end_the_batch(rt: HostRuntime) -> Result<(), Fail> {
             4,
             "sec: trace: truncated at line 2\n",
         ),
-    ] {
+    ];
+    let alloc = rt.alloc();
+    for &(words, list, status, err) in ENDINGS {
         assert!(rt;
             answers_so(&rt, alloc, &batch(words, LOW, list, status, "", err))?,
             "{words} {list}"

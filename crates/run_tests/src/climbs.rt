@@ -10,26 +10,27 @@ use std::thread::Threads;
 
 #[test]
 fn a_climb_ends_at_the_first_depth_that_decides(rt: HostRuntime) -> Result<(), Fail> {
+    const SAME: &str = "equivalent k=1 signals=3 classes=2\n";
+    const SECOND: &str = "different k=2 frame=1 output=0\n1\nb0\n0\n\n\n.\n";
+    const THIRD: &str = "equivalent k=3 signals=5 classes=4\n";
+    const LEAST: &str = "different k=3 frame=2 output=0\n1\nb0\n0000\n0\n0\n0\n.\n";
+    const OPEN: &str = "undecided k=1 signals=2 classes=2 unpaired=0\n";
+    const TWO: &str = "undecided k=2 signals=5 classes=5 unpaired=0\n";
+    const CLIMBS: &[(&str, &str, &str, u8, &str)] = &[
+        ("sec climb left right", TOGGLE, TOGGLE, 0, SAME),
+        ("sec climb left right", TOGGLE, LOW, 1, SECOND),
+        ("sec climb left right -j 3", TOGGLE, LOW, 1, SECOND),
+        ("sec climb left right -m 2", TOGGLE, LOW, 1, SECOND),
+        ("sec climb left right -m 1", TOGGLE, LOW, 2, OPEN),
+        ("sec climb left right", LOW, RING, 0, THIRD),
+        ("sec climb left right -j 3", LOW, RING, 0, THIRD),
+        ("sec climb left right -m 3", LOW, RING, 0, THIRD),
+        ("sec climb left right -m 2", LOW, RING, 2, TWO),
+        ("sec climb left right --least", DELAY, MASKED, 1, LEAST),
+        ("sec climb left right --least -j 3", DELAY, MASKED, 1, LEAST),
+    ];
     let alloc = rt.alloc();
-    let same = "equivalent k=1 signals=3 classes=2\n";
-    let second = "different k=2 frame=1 output=0\n1\nb0\n0\n\n\n.\n";
-    let third = "equivalent k=3 signals=5 classes=4\n";
-    let least = "different k=3 frame=2 output=0\n1\nb0\n0000\n0\n0\n0\n.\n";
-    let open = "undecided k=1 signals=2 classes=2 unpaired=0\n";
-    let two = "undecided k=2 signals=5 classes=5 unpaired=0\n";
-    for (words, left, right, status, out) in [
-        ("sec climb left right", TOGGLE, TOGGLE, 0, same),
-        ("sec climb left right", TOGGLE, LOW, 1, second),
-        ("sec climb left right -j 3", TOGGLE, LOW, 1, second),
-        ("sec climb left right -m 2", TOGGLE, LOW, 1, second),
-        ("sec climb left right -m 1", TOGGLE, LOW, 2, open),
-        ("sec climb left right", LOW, RING, 0, third),
-        ("sec climb left right -j 3", LOW, RING, 0, third),
-        ("sec climb left right -m 3", LOW, RING, 0, third),
-        ("sec climb left right -m 2", LOW, RING, 2, two),
-        ("sec climb left right --least", DELAY, MASKED, 1, least),
-        ("sec climb left right --least -j 3", DELAY, MASKED, 1, least),
-    ] {
+    for &(words, left, right, status, out) in CLIMBS {
         assert!(rt;
             answers_so(&rt, alloc, &case(words, left, right, status, out, ""))?,
             "{words}"
@@ -71,15 +72,16 @@ fn has_journal<R: Threads + Wait + Sync>(
 
 #[test]
 fn a_climb_returns_the_journal_of_its_last_refinement(rt: HostRuntime) -> Result<(), Fail> {
-    let alloc = rt.alloc();
-    let input = "aag 1 1 0 1 0\n2\n2\n";
-    let turned = "aag 1 1 0 1 0\n2\n3\n";
-    for (left, right, some) in [
+    const INPUT: &str = "aag 1 1 0 1 0\n2\n2\n";
+    const TURNED: &str = "aag 1 1 0 1 0\n2\n3\n";
+    const CLIMBS: &[(&str, &str, bool)] = &[
         (TOGGLE, TOGGLE, true),
         (TOGGLE, LOW, true),
         (LOW, RING, true),
-        (input, turned, false),
-    ] {
+        (INPUT, TURNED, false),
+    ];
+    let alloc = rt.alloc();
+    for &(left, right, some) in CLIMBS {
         let row = case("sec climb left right", left, right, 0, "", "");
         assert_eq!(rt; has_journal(&rt, alloc, &row)?, some);
     }

@@ -18,20 +18,20 @@ fn a_pair_of_no_size_is_empty(rt: HostRuntime) {
 // The literals' numbers were made by a program outside this repository, of the same generator.
 #[test]
 fn a_chosen_latch_is_complemented_in_the_copy(rt: HostRuntime) {
+    const GATES: &[(u32, u32, u32, u32)] = &[
+        (3, 4, 5, 2),
+        (4, 6, 6, 2),
+        (5, 8, 8, 2),
+        (6, 8, 8, 6),
+        (7, 9, 9, 3),
+        (8, 15, 15, 3),
+    ];
     let pair = make_demo(rt.alloc(), 1);
     assert!(rt; pair.is_ok());
     if let Ok((left, right)) = pair {
-        let gates = [
-            (3u32, 4u32, 5u32, 2u32),
-            (4, 6, 6, 2),
-            (5, 8, 8, 2),
-            (6, 8, 8, 6),
-            (7, 9, 9, 3),
-            (8, 15, 15, 3),
-        ];
         assert_eq!(rt; left.gates().len(), 6);
         assert_eq!(rt; right.gates().len(), 6);
-        for ((mine, copied), gate) in left.gates().iter().zip(right.gates()).zip(gates) {
+        for ((mine, copied), gate) in left.gates().iter().zip(right.gates()).zip(GATES) {
             assert_eq!(rt;
                 (mine.var, mine.left, mine.right),
                 (gate.0, Lit::from_number(gate.1), Lit::from_number(gate.3))

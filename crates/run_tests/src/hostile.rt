@@ -24,17 +24,17 @@ struct Row {
     err: &'static str,
 }
 
-const TOGGLE: &str = "aag 1 0 1 1 0\n2 3\n2\n";
+const TOGGLE: &[u8] = b"aag 1 0 1 1 0\n2 3\n2\n";
 
-const LOW: &str = "aag 0 0 0 1 0\n0\n";
+const LOW: &[u8] = b"aag 0 0 0 1 0\n0\n";
 
-const RING: &str = "aag 4 0 3 1 1\n2 6 1\n4 2\n6 4\n8\n8 2 4\n";
+const RING: &[u8] = b"aag 4 0 3 1 1\n2 6 1\n4 2\n6 4\n8\n8 2 4\n";
 
-const PRODUCT_OF_LATCHES: &str = "aag 5 2 2 1 1\n2\n4\n6 2\n8 4\n10\n10 6 8\n";
+const PRODUCT_OF_LATCHES: &[u8] = b"aag 5 2 2 1 1\n2\n4\n6 2\n8 4\n10\n10 6 8\n";
 
-const LATCH_OF_PRODUCT: &str = "aag 4 2 1 1 1\n2\n4\n6 8\n6\n8 2 4\n";
+const LATCH_OF_PRODUCT: &[u8] = b"aag 4 2 1 1 1\n2\n4\n6 8\n6\n8 2 4\n";
 
-const TRACE: &str = "1\nb0\n0\n\n\n.\n";
+const TRACE: &[u8] = b"1\nb0\n0\n\n\n.\n";
 
 const DIFFERENT: &str = "different k=2 frame=1 output=0\n1\nb0\n0\n\n\n.\n";
 
@@ -61,20 +61,6 @@ fn ends_so<R: Threads + Wait + Sync>(rt: &R, alloc: Global, row: &Row) -> Result
     Ok(report.status == row.status && sinks.hold(row.out, row.err))
 }
 
-// The first row that ends otherwise than it says.
-fn first_wrong<R: Threads + Wait + Sync>(
-    rt: &R,
-    alloc: Global,
-    rows: &[Row],
-) -> Result<Option<&'static str>, AllocError> {
-    for row in rows {
-        if !ends_so(rt, alloc, row)? {
-            return Ok(Some(row.words));
-        }
-    }
-    Ok(None)
-}
-
 // How a run over a shelf ends, and what it prints.
 fn printed<R: Threads + Wait + Sync>(
     rt: &R,
@@ -89,16 +75,16 @@ fn printed<R: Threads + Wait + Sync>(
 
 fn answered(
     words: &'static str,
-    left: &'static str,
+    left: &'static [u8],
     right: &'static [u8],
     status: u8,
     out: &'static str,
 ) -> Row {
     Row {
         words,
-        left: left.as_bytes(),
+        left,
         right,
-        third: TRACE.as_bytes(),
+        third: TRACE,
         failing: u64::MAX,
         room: 400,
         status,
@@ -108,126 +94,133 @@ fn answered(
 }
 
 // The row of a run that ends by a fault of a device.
-fn failed(words: &'static str, failing: u64, room: usize, status: u8, err: &'static str) -> Row {
+fn failed(
+    words: &'static str,
+    right: &'static [u8],
+    failing: u64,
+    room: usize,
+    status: u8,
+    err: &'static str,
+) -> Row {
     Row {
         failing,
         room,
         err,
-        ..answered(words, TOGGLE, LOW.as_bytes(), status, "")
+        ..answered(words, TOGGLE, right, status, "")
     }
 }
 
 #[test]
 fn any_bytes_and_any_depth_are_answered(rt: HostRuntime) -> Result<(), Fail> {
-    let alloc = rt.alloc();
-    let check = "sec check left right";
-    let deep = "sec check left right -k 16";
-    let eight = "aag 8 8 0 0 0\n2\n4\n6\n8\n10\n12\n14\n16\n";
-    let overlong = b"aig 4 2 1 1 1\n8\n6\n\x84\x00\x02".as_slice();
-    let squared = b"aig 4 2 1 1 1\n8\n6\n\x08\x00".as_slice();
-    let complement = b"aag 1 0 1 1 0\n2 3 1\n3\n".as_slice();
-    let rows = [
-        answered(
-            check,
-            eight,
-            eight.as_bytes(),
+    const CHECK: &str = "sec check left right";
+    const DEEP: &str = "sec check left right -k 16";
+    const EIGHT: &[u8] = b"aag 8 8 0 0 0\n2\n4\n6\n8\n10\n12\n14\n16\n";
+    const OVERLONG: &[u8] = b"aig 4 2 1 1 1\n8\n6\n\x84\x00\x02";
+    const SQUARED: &[u8] = b"aig 4 2 1 1 1\n8\n6\n\x08\x00";
+    const COMPLEMENT: &[u8] = b"aag 1 0 1 1 0\n2 3 1\n3\n";
+    const ROWS: &[(&str, &[u8], &[u8], u8, &str)] = &[
+        (
+            CHECK,
+            EIGHT,
+            EIGHT,
             0,
             "equivalent k=1 signals=9 classes=9\n",
         ),
-        answered(
-            check,
+        (
+            CHECK,
             PRODUCT_OF_LATCHES,
-            overlong,
+            OVERLONG,
             0,
             "equivalent k=1 signals=8 classes=7\n",
         ),
-        answered(
-            check,
+        (
+            CHECK,
             PRODUCT_OF_LATCHES,
-            squared,
+            SQUARED,
             2,
             "undecided k=1 signals=8 classes=6 unpaired=0\n",
         ),
-        answered(
-            check,
+        (
+            CHECK,
             TOGGLE,
-            b"aag 1 0 1 1 0\n2 3\n3\n".as_slice(),
+            b"aag 1 0 1 1 0\n2 3\n3\n",
             1,
             "different k=1 frame=0 output=0\n1\nb0\n00\n\n.\n",
         ),
-        answered(
-            check,
-            "aig 300 300 0 1 0\n600\n",
-            b"aig 300 300 0 1 0\n600\n".as_slice(),
+        (
+            CHECK,
+            b"aig 300 300 0 1 0\n600\n",
+            b"aig 300 300 0 1 0\n600\n",
             0,
             "equivalent k=1 signals=301 classes=301\n",
         ),
-        answered(
+        (
             "sec check left right -k 16 -j 4 --classes",
             TOGGLE,
-            complement,
+            COMPLEMENT,
             0,
             "equivalent k=16 signals=3 classes=2\nclass l1 !r1\n",
         ),
-        answered(
-            deep,
-            LOW,
-            RING.as_bytes(),
-            0,
-            "equivalent k=16 signals=5 classes=4\n",
-        ),
-        answered(
-            deep,
+        (DEEP, LOW, RING, 0, "equivalent k=16 signals=5 classes=4\n"),
+        (
+            DEEP,
             PRODUCT_OF_LATCHES,
-            LATCH_OF_PRODUCT.as_bytes(),
+            LATCH_OF_PRODUCT,
             0,
             "equivalent k=16 signals=8 classes=7\n",
         ),
-        answered(
-            deep,
+        (
+            DEEP,
             TOGGLE,
-            LOW.as_bytes(),
+            LOW,
             1,
             "different k=16 frame=1 output=0\n1\nb0\n0\n\n\n.\n",
         ),
     ];
-    assert_eq!(rt; first_wrong(&rt, alloc, rows.as_slice())?, None);
+    let alloc = rt.alloc();
+    for &(words, left, right, status, out) in ROWS {
+        let row = answered(words, left, right, status, out);
+        assert!(rt; ends_so(&rt, alloc, &row)?, "{words}");
+    }
     Ok(())
 }
 
 #[test]
 fn devices_that_fail_are_told(rt: HostRuntime) -> Result<(), Fail> {
-    let alloc = rt.alloc();
-    let unwritten = "sec: output: write failed\n";
-    let rows = [
-        Row {
-            right: TOGGLE.as_bytes(),
-            ..failed("sec check left right", u64::MAX, 0, 6, unwritten)
-        },
-        failed(
+    const UNWRITTEN: &str = "sec: output: write failed\n";
+    const ROWS: &[(&str, &[u8], u64, usize, u8, &str)] = &[
+        ("sec check left right", TOGGLE, u64::MAX, 0, 6, UNWRITTEN),
+        (
             "sec check left right -k 2 --trace made",
+            LOW,
             2,
             400,
             6,
             "sec: made: write failed\n",
         ),
-        failed(
+        (
             "sec replay left right third",
+            LOW,
             2,
             400,
             5,
             "sec: third: read failed\n",
         ),
-        failed(
+        (
             "sec verify left right third",
+            LOW,
             2,
             400,
             5,
             "sec: third: read failed\n",
         ),
-        failed("sec demo 0", u64::MAX, 0, 6, unwritten),
+        ("sec demo 0", LOW, u64::MAX, 0, 6, UNWRITTEN),
     ];
-    assert_eq!(rt; first_wrong(&rt, alloc, rows.as_slice())?, None);
+    let alloc = rt.alloc();
+    for &(words, right, failing, room, status, err) in ROWS {
+        let row = failed(words, right, failing, room, status, err);
+        assert!(rt; ends_so(&rt, alloc, &row)?, "{words}");
+    }
     Ok(())
 }
 
@@ -238,14 +231,14 @@ fn is_cut_at<R: Threads + Wait + Sync>(
     room: usize,
 ) -> Result<bool, AllocError> {
     let words = "sec check left right -k 2 --trace made";
-    let mut shelf = shelf_of(alloc, &failed(words, u64::MAX, room, 6, ""))?;
+    let mut shelf = shelf_of(alloc, &failed(words, LOW, u64::MAX, room, 6, ""))?;
     let mut sinks = Sinks::new(alloc, room, Vec::new(alloc), Vec::new(alloc))?;
     let report = run_words(rt, alloc, words, &mut shelf, &mut sinks, &FreeGate)?;
     Ok(
         report.status == 6
             && Some(sinks.out.bytes()) == DIFFERENT.as_bytes().get(..room)
             && sinks.err.bytes() == b"sec: output: write failed\n".as_slice()
-            && shelf.get("made") == Some(TRACE.as_bytes()),
+            && shelf.get("made") == Some(TRACE),
     )
 }
 
@@ -263,10 +256,10 @@ fn is_verified<R: Threads + Wait + Sync>(
     rt: &R,
     alloc: Global,
     words: &'static str,
-    left: &'static str,
-    right: &'static str,
+    left: &'static [u8],
+    right: &'static [u8],
 ) -> Result<bool, AllocError> {
-    let mut shelf = shelf_of(alloc, &answered(words, left, right.as_bytes(), 0, ""))?;
+    let mut shelf = shelf_of(alloc, &answered(words, left, right, 0, ""))?;
     let (stored, _) = printed(rt, alloc, words, &mut shelf)?;
     let (_, read) = printed(rt, alloc, "sec verify left right made", &mut shelf)?;
     Ok(stored == 0 && read.bytes() == b"verified\n".as_slice())

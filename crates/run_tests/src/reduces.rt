@@ -12,19 +12,20 @@ const RING_ALONE: &str = "aag 4 0 3 1 0\n2 6 1\n4 2\n6 4\n0\n";
 
 #[test]
 fn a_netlist_without_its_equal_signals_is_stored(rt: HostRuntime) -> Result<(), Fail> {
+    const ONE: &str = "reduced k=1 signals=4 classes=2 latches=1 gates=0\n";
+    const WHOLE: &str = "reduced k=1 signals=2 classes=2 latches=1 gates=0\n";
+    const SAME: &str = "reduced k=1 signals=5 classes=5 latches=3 gates=1\n";
+    const LESS: &str = "reduced k=3 signals=5 classes=4 latches=3 gates=0\n";
+    const BINARY: &str = "aig 1 0 1 1 0\n3\n3\n";
+    const REDUCED: &[(&str, &str, &str, &str)] = &[
+        ("sec reduce left made", TOGGLES, ONE, ONE_TOGGLE),
+        ("sec reduce left made --binary", TOGGLES, ONE, BINARY),
+        ("sec reduce left made", TOGGLE, WHOLE, TOGGLE),
+        ("sec reduce left made -j 3", RING, SAME, RING),
+        ("sec reduce left made -k 3", RING, LESS, RING_ALONE),
+    ];
     let alloc = rt.alloc();
-    let one = "reduced k=1 signals=4 classes=2 latches=1 gates=0\n";
-    let whole = "reduced k=1 signals=2 classes=2 latches=1 gates=0\n";
-    let ring = "reduced k=1 signals=5 classes=5 latches=3 gates=1\n";
-    let less = "reduced k=3 signals=5 classes=4 latches=3 gates=0\n";
-    let binary = "aig 1 0 1 1 0\n3\n3\n";
-    for (words, source, out, file) in [
-        ("sec reduce left made", TOGGLES, one, ONE_TOGGLE),
-        ("sec reduce left made --binary", TOGGLES, one, binary),
-        ("sec reduce left made", TOGGLE, whole, TOGGLE),
-        ("sec reduce left made -j 3", RING, ring, RING),
-        ("sec reduce left made -k 3", RING, less, RING_ALONE),
-    ] {
+    for &(words, source, out, file) in REDUCED {
         let row = case(words, source, "", 0, out, "");
         assert!(rt;
             leaves(&rt, alloc, &row, "made", Some(file.as_bytes()))?,

@@ -26,6 +26,16 @@ pub(crate) struct Row {
     pub(crate) err: &'static str,
 }
 
+// The words of a run, its two netlists, and what it answers.
+pub(crate) type Case = (
+    &'static str,
+    &'static str,
+    &'static str,
+    u8,
+    &'static str,
+    &'static str,
+);
+
 pub(crate) const TOGGLE: &str = "aag 1 0 1 1 0\n2 3\n2\n";
 
 pub(crate) const LOW: &str = "aag 0 0 0 1 0\n0\n";
@@ -191,15 +201,15 @@ pub(crate) fn leaves_unprinted<R: Threads + Wait + Sync>(
     leaves_past(rt, alloc, row, &mut sinks, name, Some(file))
 }
 
-// The words of the first row that a run doesn't end as it has it.
+// The words of the first case that a run doesn't end as it has it.
 pub(crate) fn first_other<R: Threads + Wait + Sync>(
     rt: &R,
     alloc: Global,
-    rows: &[Row],
+    cases: &[Case],
 ) -> Result<Option<&'static str>, AllocError> {
-    for row in rows {
-        if !answers_so(rt, alloc, row)? {
-            return Ok(Some(row.words));
+    for &(words, left, right, status, out, err) in cases {
+        if !answers_so(rt, alloc, &case(words, left, right, status, out, err))? {
+            return Ok(Some(words));
         }
     }
     Ok(None)
@@ -241,40 +251,39 @@ fn run_over_sure_devices<R: Threads + Wait + Sync>(
 
 #[test]
 fn pairs_that_are_proved(rt: HostRuntime) -> Result<(), Fail> {
-    let alloc = rt.alloc();
-    let and = "aag 5 2 2 1 1\n2\n4\n6 2\n8 4\n10\n10 6 8\n";
-    let retimed = "aag 4 2 1 1 1\n2\n4\n6 8\n6\n8 2 4\n";
-    let eight = "aag 8 8 0 0 0\n2\n4\n6\n8\n10\n12\n14\n16\n";
-    let complement = "aag 1 0 1 1 0\n2 3 1\n3\n";
-    let two = "equivalent k=1 signals=3 classes=2\n";
-    let rows = [
-        case("sec check left right", TOGGLE, TOGGLE, 0, two, ""),
-        case("sec check left right", TOGGLE, complement, 0, two, ""),
-        case(
+    const AND: &str = "aag 5 2 2 1 1\n2\n4\n6 2\n8 4\n10\n10 6 8\n";
+    const RETIMED: &str = "aag 4 2 1 1 1\n2\n4\n6 8\n6\n8 2 4\n";
+    const EIGHT: &str = "aag 8 8 0 0 0\n2\n4\n6\n8\n10\n12\n14\n16\n";
+    const COMPLEMENT: &str = "aag 1 0 1 1 0\n2 3 1\n3\n";
+    const TWO: &str = "equivalent k=1 signals=3 classes=2\n";
+    const ROWS: &[Case] = &[
+        ("sec check left right", TOGGLE, TOGGLE, 0, TWO, ""),
+        ("sec check left right", TOGGLE, COMPLEMENT, 0, TWO, ""),
+        (
             "sec check left right --classes",
             TOGGLE,
-            complement,
+            COMPLEMENT,
             0,
             "equivalent k=1 signals=3 classes=2\nclass l1 !r1\n",
             "",
         ),
-        case(
+        (
             "sec check left right",
-            and,
-            retimed,
+            AND,
+            RETIMED,
             0,
             "equivalent k=1 signals=8 classes=7\n",
             "",
         ),
-        case(
+        (
             "sec check left right",
-            and,
+            AND,
             "aig 4 2 1 1 1\n8\n6\n\x04\x02",
             0,
             "equivalent k=1 signals=8 classes=7\n",
             "",
         ),
-        case(
+        (
             "sec check left right -k 3",
             LOW,
             RING,
@@ -282,15 +291,15 @@ fn pairs_that_are_proved(rt: HostRuntime) -> Result<(), Fail> {
             "equivalent k=3 signals=5 classes=4\n",
             "",
         ),
-        case(
+        (
             "sec check -k 2 left -j 4 right",
-            eight,
-            eight,
+            EIGHT,
+            EIGHT,
             0,
             "equivalent k=2 signals=9 classes=9\n",
             "",
         ),
-        case(
+        (
             "sec check left right",
             "aag 0 0 0 0 0\n",
             "aag 0 0 0 0 0\n",
@@ -298,24 +307,24 @@ fn pairs_that_are_proved(rt: HostRuntime) -> Result<(), Fail> {
             "equivalent k=1 signals=1 classes=1\n",
             "",
         ),
-        case(
+        (
             "sec check left right",
             "aag 1 0 1 1 0\n2 3\n2\nl0 x\no0 y\ncmade by hand",
             TOGGLE,
             0,
-            two,
+            TWO,
             "",
         ),
     ];
-    assert_eq!(rt; first_other(&rt, alloc, rows.as_slice())?, None);
+    let alloc = rt.alloc();
+    assert_eq!(rt; first_other(&rt, alloc, ROWS)?, None);
     Ok(())
 }
 
 #[test]
 fn pairs_that_differ_or_stay_open(rt: HostRuntime) -> Result<(), Fail> {
-    let alloc = rt.alloc();
-    let rows = [
-        case(
+    const ROWS: &[Case] = &[
+        (
             "sec check left right",
             TOGGLE,
             LOW,
@@ -323,7 +332,7 @@ fn pairs_that_differ_or_stay_open(rt: HostRuntime) -> Result<(), Fail> {
             "undecided k=1 signals=2 classes=2 unpaired=0\n",
             "",
         ),
-        case(
+        (
             "sec check left right -k 2",
             TOGGLE,
             LOW,
@@ -331,7 +340,7 @@ fn pairs_that_differ_or_stay_open(rt: HostRuntime) -> Result<(), Fail> {
             "different k=2 frame=1 output=0\n1\nb0\n0\n\n\n.\n",
             "",
         ),
-        case(
+        (
             "sec check left right --classes",
             DELAY,
             MASKED,
@@ -339,7 +348,7 @@ fn pairs_that_differ_or_stay_open(rt: HostRuntime) -> Result<(), Fail> {
             "undecided k=1 signals=12 classes=9 unpaired=0\nclass c r5\nclass l2 r2\nclass r6 !r7\n",
             "",
         ),
-        case(
+        (
             "sec check left right -k 2",
             LOW,
             RING,
@@ -347,7 +356,7 @@ fn pairs_that_differ_or_stay_open(rt: HostRuntime) -> Result<(), Fail> {
             "undecided k=2 signals=5 classes=5 unpaired=0\n",
             "",
         ),
-        case(
+        (
             "sec check left right",
             LOW,
             RING,
@@ -355,7 +364,7 @@ fn pairs_that_differ_or_stay_open(rt: HostRuntime) -> Result<(), Fail> {
             "undecided k=1 signals=5 classes=5 unpaired=0\n",
             "",
         ),
-        case(
+        (
             "sec check left right",
             TOGGLE,
             "aag 1 0 1 1 0\n2 3 1\n2\n",
@@ -363,7 +372,7 @@ fn pairs_that_differ_or_stay_open(rt: HostRuntime) -> Result<(), Fail> {
             "different k=1 frame=0 output=0\n1\nb0\n01\n\n.\n",
             "",
         ),
-        case(
+        (
             "sec check left right",
             "aag 1 0 1 2 0\n2 3\n2\n2\n",
             "aag 1 0 1 2 0\n2 3\n2\n0\n",
@@ -371,7 +380,7 @@ fn pairs_that_differ_or_stay_open(rt: HostRuntime) -> Result<(), Fail> {
             "undecided k=1 signals=3 classes=2 unpaired=1\n",
             "",
         ),
-        case(
+        (
             "sec replay left right trace",
             TOGGLE,
             LOW,
@@ -379,7 +388,7 @@ fn pairs_that_differ_or_stay_open(rt: HostRuntime) -> Result<(), Fail> {
             "differs frame=1 output=0\n",
             "",
         ),
-        case(
+        (
             "sec replay left right trace",
             TOGGLE,
             TOGGLE,
@@ -388,35 +397,35 @@ fn pairs_that_differ_or_stay_open(rt: HostRuntime) -> Result<(), Fail> {
             "sec: trace: length at line 3\n",
         ),
     ];
-    assert_eq!(rt; first_other(&rt, alloc, rows.as_slice())?, None);
+    let alloc = rt.alloc();
+    assert_eq!(rt; first_other(&rt, alloc, ROWS)?, None);
     Ok(())
 }
 
 #[test]
 fn files_that_are_refused(rt: HostRuntime) -> Result<(), Fail> {
-    let alloc = rt.alloc();
-    let words = "sec check left right";
-    let none = "aag 0 0 0 0 0\n";
-    let rows = [
-        case(words, DELAY, none, 4, "", "sec: inputs differ: 1 and 0\n"),
-        case(words, none, LOW, 4, "", "sec: outputs differ: 0 and 1\n"),
-        case(
-            words,
+    const WORDS: &str = "sec check left right";
+    const NONE: &str = "aag 0 0 0 0 0\n";
+    const ROWS: &[Case] = &[
+        (WORDS, DELAY, NONE, 4, "", "sec: inputs differ: 1 and 0\n"),
+        (WORDS, NONE, LOW, 4, "", "sec: outputs differ: 0 and 1\n"),
+        (
+            WORDS,
             "aag 1 1 0 0 0 1\n2\n2\n",
             TOGGLE,
             4,
             "",
             "sec: left: section bad at byte 0\n",
         ),
-        case(
-            words,
+        (
+            WORDS,
             TOGGLE,
             "aag 2 1 0 1 0\n2\n4\n",
             4,
             "",
             "sec: right: undefined at byte 0\n",
         ),
-        case(
+        (
             "sec check left none",
             TOGGLE,
             TOGGLE,
@@ -424,7 +433,7 @@ fn files_that_are_refused(rt: HostRuntime) -> Result<(), Fail> {
             "",
             "sec: none: read failed\n",
         ),
-        case(
+        (
             "sec check left none",
             "aag 2 0 0 1 2\n2\n2 4 4\n4 2 2\n",
             TOGGLE,
@@ -432,15 +441,15 @@ fn files_that_are_refused(rt: HostRuntime) -> Result<(), Fail> {
             "",
             "sec: left: cyclic at byte 0\n",
         ),
-        case(
-            words,
+        (
+            WORDS,
             TOGGLE,
             "aig 4 2 1 1 1\n8\n6\n\x04",
             4,
             "",
             "sec: right: truncated at byte 18\n",
         ),
-        case(
+        (
             "sec replay left right none",
             TOGGLE,
             TOGGLE,
@@ -449,14 +458,15 @@ fn files_that_are_refused(rt: HostRuntime) -> Result<(), Fail> {
             "sec: none: read failed\n",
         ),
     ];
-    assert_eq!(rt; first_other(&rt, alloc, rows.as_slice())?, None);
+    let alloc = rt.alloc();
+    assert_eq!(rt; first_other(&rt, alloc, ROWS)?, None);
     Ok(())
 }
 
 #[test]
 fn demos_are_equivalent(rt: HostRuntime) -> Result<(), Fail> {
     let alloc = rt.alloc();
-    let rows = [
+    const DEMOS: &[(&str, &str)] = &[
         (
             "sec demo 0",
             "demo n=0 inputs=0 latches=0 gates=0 outputs=0\nequivalent k=1 signals=1 classes=1\n",
@@ -482,7 +492,7 @@ fn demos_are_equivalent(rt: HostRuntime) -> Result<(), Fail> {
             "demo n=20 inputs=20 latches=20 gates=120 outputs=20\nequivalent k=1 signals=301 classes=147\n",
         ),
     ];
-    for (words, out) in rows {
+    for &(words, out) in DEMOS {
         assert!(rt; answers_so(&rt, alloc, &case(words, "", "", 0, out, ""))?);
     }
     Ok(())
@@ -490,93 +500,93 @@ fn demos_are_equivalent(rt: HostRuntime) -> Result<(), Fail> {
 
 #[test]
 fn numbers_of_entries(rt: HostRuntime) -> Result<(), Fail> {
-    let alloc = rt.alloc();
-    let none = "aag 0 0 0 0 0\n";
-    let nothing =
+    const NONE: &str = "aag 0 0 0 0 0\n";
+    const NOTHING: &str =
         "equivalent k=1 signals=1 classes=1\nstats offers=0 counted=0 stale=0 splits=0 already=0 back=0\n";
     // Simulation tells both latches from the constant, and leaves one pair, which one worker proves.
-    let one =
+    const ONE: &str =
         "equivalent k=1 signals=3 classes=2\nclass l1 r1\nstats offers=1 counted=1 stale=0 splits=0 already=0 back=0\n";
-    let open =
+    const OPEN: &str =
         "undecided k=1 signals=2 classes=2 unpaired=0\nstats offers=0 counted=0 stale=0 splits=0 already=0 back=0\n";
-    let differs = "different k=2 frame=1 output=0\n1\nb0\n0\n\n\n.\n";
-    let rows = [
-        case("sec check left right --stats", none, none, 0, nothing, ""),
-        case(
+    const DIFFERS: &str = "different k=2 frame=1 output=0\n1\nb0\n0\n\n\n.\n";
+    const ROWS: &[Case] = &[
+        ("sec check left right --stats", NONE, NONE, 0, NOTHING, ""),
+        (
             "sec check left right --stats -j 64",
-            none,
-            none,
+            NONE,
+            NONE,
             0,
-            nothing,
+            NOTHING,
             "",
         ),
-        case(
+        (
             "sec check --stats left right --classes",
             TOGGLE,
             TOGGLE,
             0,
-            one,
+            ONE,
             "",
         ),
-        case(
+        (
             "sec check left right --classes --stats -j 7",
             TOGGLE,
             TOGGLE,
             0,
-            one,
+            ONE,
             "",
         ),
-        case("sec check left right --stats", TOGGLE, LOW, 2, open, ""),
-        case(
+        ("sec check left right --stats", TOGGLE, LOW, 2, OPEN, ""),
+        (
             "sec check left right --stats -k 2",
             TOGGLE,
             LOW,
             1,
-            differs,
+            DIFFERS,
             "",
         ),
     ];
-    assert_eq!(rt; first_other(&rt, alloc, rows.as_slice())?, None);
+    let alloc = rt.alloc();
+    assert_eq!(rt; first_other(&rt, alloc, ROWS)?, None);
     Ok(())
 }
 
 #[test]
 fn any_number_of_workers_tells_the_same(rt: HostRuntime) -> Result<(), Fail> {
-    let alloc = rt.alloc();
-    let ten =
+    const TEN: &str =
         "demo n=10 inputs=10 latches=10 gates=60 outputs=10\nequivalent k=1 signals=151 classes=70\n";
-    let open =
+    const OPEN: &str =
         "undecided k=1 signals=12 classes=9 unpaired=0\nclass c r5\nclass l2 r2\nclass r6 !r7\n";
-    let rows = [
-        case(
+    const ROWS: &[Case] = &[
+        (
             "sec check left right --classes -j 1",
             DELAY,
             MASKED,
             2,
-            open,
+            OPEN,
             "",
         ),
-        case(
+        (
             "sec check left right --classes -j 2",
             DELAY,
             MASKED,
             2,
-            open,
+            OPEN,
             "",
         ),
-        case(
+        (
             "sec check left right --classes -j 7",
             DELAY,
             MASKED,
             2,
-            open,
+            OPEN,
             "",
         ),
-        case("sec demo 10 -j 1", "", "", 0, ten, ""),
-        case("sec demo 10 -j 2", "", "", 0, ten, ""),
-        case("sec demo 10 -j 7", "", "", 0, ten, ""),
+        ("sec demo 10 -j 1", "", "", 0, TEN, ""),
+        ("sec demo 10 -j 2", "", "", 0, TEN, ""),
+        ("sec demo 10 -j 7", "", "", 0, TEN, ""),
     ];
-    assert_eq!(rt; first_other(&rt, alloc, rows.as_slice())?, None);
+    let alloc = rt.alloc();
+    assert_eq!(rt; first_other(&rt, alloc, ROWS)?, None);
     Ok(())
 }
 
@@ -633,13 +643,14 @@ fn words_that_are_no_command(rt: HostRuntime) -> Result<(), Fail> {
 #[test]
 fn other_spellings_mean_the_same(rt: HostRuntime) -> Result<(), Fail> {
     let alloc = rt.alloc();
-    let different = "different k=2 frame=1 output=0\n1\nb0\n0\n\n\n.\n";
-    for words in [
+    const CHECKS: &[&str] = &[
         "sec check left right -k 2 --trace made",
         "sec check left right -k2 --trace=made",
         "sec check --trace=made -k=2 -- left right",
         "sec check left right -k 02 --trace made",
-    ] {
+    ];
+    let different = "different k=2 frame=1 output=0\n1\nb0\n0\n\n\n.\n";
+    for &words in CHECKS {
         let row = case(words, TOGGLE, LOW, 1, different, "");
         assert!(rt;
             leaves(&rt, alloc, &row, "made", Some(STORED.as_bytes()))?,
@@ -712,23 +723,23 @@ fn agrees_with_plain(alloc: Global, left: &str, right: &str) -> Result<bool, All
 
 #[test]
 fn the_solver_finds_the_classes_of_all_paths(rt: HostRuntime) -> Result<(), Fail> {
-    let alloc = rt.alloc();
-    let free = "aag 1 0 1 1 0\n2 2 2\n2\n";
-    let and = "aag 5 2 2 1 1\n2\n4\n6 2\n8 4\n10\n10 6 8\n";
-    let retimed = "aag 4 2 1 1 1\n2\n4\n6 8\n6\n8 2 4\n";
-    for (left, right) in [
+    const AND: &str = "aag 5 2 2 1 1\n2\n4\n6 2\n8 4\n10\n10 6 8\n";
+    const RETIMED: &str = "aag 4 2 1 1 1\n2\n4\n6 8\n6\n8 2 4\n";
+    const PAIRS: &[(&str, &str)] = &[
         (TOGGLE, TOGGLE),
         (TOGGLE, "aag 1 0 1 1 0\n2 3 1\n3\n"),
         (TOGGLE, LOW),
-        (TOGGLE, free),
-        (free, free),
+        (TOGGLE, FREE),
+        (FREE, FREE),
         (LOW, RING),
         (RING, RING),
         (DELAY, MASKED),
         (MASKED, MASKED),
-        (and, retimed),
-        (retimed, retimed),
-    ] {
+        (AND, RETIMED),
+        (RETIMED, RETIMED),
+    ];
+    let alloc = rt.alloc();
+    for &(left, right) in PAIRS {
         assert!(rt; agrees_with_plain(alloc, left, right)?);
     }
     Ok(())
@@ -755,36 +766,26 @@ fn differs_as<R: Threads + Wait + Sync>(
 fn differences_are_shown_by_some_run(rt: HostRuntime) -> Result<(), Fail> {
     let alloc = rt.alloc();
     let words = "sec check left right";
-    let free = "aag 1 0 1 1 0\n2 2 2\n2\n";
-    let two = [
+    const STARTS: &[&str] = &[
         "different k=1 frame=0 output=0\n1\nb0\n01\n\n.\n",
         "different k=1 frame=0 output=0\n1\nb0\n10\n\n.\n",
     ];
-    assert!(rt; differs_as(&rt, alloc, words, free, free, &two)?);
+    assert!(rt; differs_as(&rt, alloc, words, FREE, FREE, STARTS)?);
     let input = "aag 1 1 0 1 0\n2\n2\n";
     let turned = "aag 1 1 0 1 0\n2\n3\n";
-    let rows = [
+    const INPUTS: &[&str] = &[
         "different k=1 frame=0 output=0\n1\nb0\n\n0\n.\n",
         "different k=1 frame=0 output=0\n1\nb0\n\n1\n.\n",
     ];
-    assert!(rt; differs_as(&rt, alloc, words, input, turned, &rows)?);
+    assert!(rt; differs_as(&rt, alloc, words, input, turned, INPUTS)?);
     // The first input is 0; the others are free.
-    let four = [
+    const FOUR: &[&str] = &[
         "different k=3 frame=2 output=0\n1\nb0\n0000\n0\n0\n0\n.\n",
         "different k=3 frame=2 output=0\n1\nb0\n0000\n0\n0\n1\n.\n",
         "different k=3 frame=2 output=0\n1\nb0\n0000\n0\n1\n0\n.\n",
         "different k=3 frame=2 output=0\n1\nb0\n0000\n0\n1\n1\n.\n",
     ];
-    assert!(rt;
-        differs_as(
-            &rt,
-            alloc,
-            "sec check left right -k 3",
-            DELAY,
-            MASKED,
-            &four
-        )?
-    );
+    assert!(rt; differs_as(&rt, alloc, "sec check left right -k 3", DELAY, MASKED, FOUR)?);
     let short = Row {
         trace: "1\nb0\n0\n\n.\n",
         ..case(
@@ -802,38 +803,38 @@ fn differences_are_shown_by_some_run(rt: HostRuntime) -> Result<(), Fail> {
 
 #[test]
 fn differences_are_sought_deeper_than_the_induction(rt: HostRuntime) -> Result<(), Fail> {
-    let alloc = rt.alloc();
-    let shallow = "undecided k=1 signals=12 classes=9 unpaired=0\n";
-    let at_one = "different k=1 frame=1 output=0\n1\nb0\n0\n\n\n.\n";
-    let at_k = "different k=2 frame=1 output=0\n1\nb0\n0\n\n\n.\n";
-    let ring = "undecided k=1 signals=5 classes=5 unpaired=0\n";
-    let rows = [
-        case("sec check left right -d 2", TOGGLE, LOW, 1, at_one, ""),
-        case("sec check left right -d 2 -j 3", TOGGLE, LOW, 1, at_one, ""),
-        case("sec check -k 2 left right -d 1", TOGGLE, LOW, 1, at_k, ""),
-        case(
+    const SHALLOW: &str = "undecided k=1 signals=12 classes=9 unpaired=0\n";
+    const AT_ONE: &str = "different k=1 frame=1 output=0\n1\nb0\n0\n\n\n.\n";
+    const AT_K: &str = "different k=2 frame=1 output=0\n1\nb0\n0\n\n\n.\n";
+    const SHUT: &str = "undecided k=1 signals=5 classes=5 unpaired=0\n";
+    const ROWS: &[Case] = &[
+        ("sec check left right -d 2", TOGGLE, LOW, 1, AT_ONE, ""),
+        ("sec check left right -d 2 -j 3", TOGGLE, LOW, 1, AT_ONE, ""),
+        ("sec check -k 2 left right -d 1", TOGGLE, LOW, 1, AT_K, ""),
+        (
             "sec check -k 2 left right -d 1 -j 3",
             TOGGLE,
             LOW,
             1,
-            at_k,
+            AT_K,
             "",
         ),
-        case("sec check left right -d 2", DELAY, MASKED, 2, shallow, ""),
-        case(
+        ("sec check left right -d 2", DELAY, MASKED, 2, SHALLOW, ""),
+        (
             "sec check left right -d 2 -j 3",
             DELAY,
             MASKED,
             2,
-            shallow,
+            SHALLOW,
             "",
         ),
-        case("sec check left right -d 64", LOW, RING, 2, ring, ""),
-        case("sec check left right -d 64 -j 3", LOW, RING, 2, ring, ""),
+        ("sec check left right -d 64", LOW, RING, 2, SHUT, ""),
+        ("sec check left right -d 64 -j 3", LOW, RING, 2, SHUT, ""),
     ];
-    assert_eq!(rt; first_other(&rt, alloc, rows.as_slice())?, None);
+    let alloc = rt.alloc();
+    assert_eq!(rt; first_other(&rt, alloc, ROWS)?, None);
     // The first input is 0; the others are free.
-    let four = [
+    const FOUR: &[&str] = &[
         "different k=1 frame=2 output=0\n1\nb0\n0000\n0\n0\n0\n.\n",
         "different k=1 frame=2 output=0\n1\nb0\n0000\n0\n0\n1\n.\n",
         "different k=1 frame=2 output=0\n1\nb0\n0000\n0\n1\n0\n.\n",
@@ -843,7 +844,7 @@ fn differences_are_sought_deeper_than_the_induction(rt: HostRuntime) -> Result<(
         "sec check left right -d 3",
         "sec check left right -d 3 -j 3",
     ] {
-        assert!(rt; differs_as(&rt, alloc, words, DELAY, MASKED, &four)?);
+        assert!(rt; differs_as(&rt, alloc, words, DELAY, MASKED, FOUR)?);
     }
     Ok(())
 }
@@ -865,59 +866,64 @@ fn with_third(third: &'static str, row: Row) -> Row {
 
 #[test]
 fn free_latches_may_be_tied(rt: HostRuntime) -> Result<(), Fail> {
-    let alloc = rt.alloc();
-    let two = "equivalent k=1 signals=3 classes=2\n";
-    let apart = "sec: free latches differ: 0 and 1\n";
-    let check = "sec check left right --tie";
-    let replay = "sec replay left right trace --tie";
-    let verify = "sec verify left right trace --tie";
-    let shown = "differs frame=0 output=0\n";
-    let rows = [
-        case(check, FREE, FREE, 0, two, ""),
-        case("sec check --tie left right -j 3", FREE, FREE, 0, two, ""),
-        case(check, TOGGLE, FREE, 4, "", apart),
-        case(replay, TOGGLE, FREE, 4, "", apart),
-        case(verify, TOGGLE, FREE, 4, "", apart),
-        case(
-            check,
+    const TWO: &str = "equivalent k=1 signals=3 classes=2\n";
+    const APART: &str = "sec: free latches differ: 0 and 1\n";
+    const CHECK: &str = "sec check left right --tie";
+    const REPLAY: &str = "sec replay left right trace --tie";
+    const VERIFY: &str = "sec verify left right trace --tie";
+    const ROWS: &[Case] = &[
+        (CHECK, FREE, FREE, 0, TWO, ""),
+        ("sec check --tie left right -j 3", FREE, FREE, 0, TWO, ""),
+        (CHECK, TOGGLE, FREE, 4, "", APART),
+        (REPLAY, TOGGLE, FREE, 4, "", APART),
+        (VERIFY, TOGGLE, FREE, 4, "", APART),
+        (
+            CHECK,
             LOW,
             "aag 1 1 0 0 0\n2\n",
             4,
             "",
             "sec: inputs differ: 0 and 1\n",
         ),
-        with_third(
+    ];
+    // The words of a run over two such latches, its third file, and what it answers.
+    const THIRDS: &[(&str, &str, u8, &str, &str)] = &[
+        (
+            REPLAY,
             "1\nb0\n01\n\n.\n",
-            case(replay, FREE, FREE, 4, "", "sec: trace: tie at line 3\n"),
+            4,
+            "",
+            "sec: trace: tie at line 3\n",
         ),
-        with_third(
+        (
+            "sec replay left right trace",
             "1\nb0\n01\n\n.\n",
-            case("sec replay left right trace", FREE, FREE, 1, shown, ""),
+            1,
+            "differs frame=0 output=0\n",
+            "",
         ),
-        with_third(
-            "1\nb0\n11\n\n.\n",
-            case(replay, FREE, FREE, 0, "agrees frames=1\n", ""),
-        ),
-        with_third(TIED, case(verify, FREE, FREE, 0, "verified\n", "")),
-        with_third(
+        (REPLAY, "1\nb0\n11\n\n.\n", 0, "agrees frames=1\n", ""),
+        (VERIFY, TIED, 0, "verified\n", ""),
+        (
+            "sec verify left right trace",
             TIED,
-            case(
-                "sec verify left right trace",
-                FREE,
-                FREE,
-                4,
-                "",
-                "sec: trace: tie at line 1\n",
-            ),
+            4,
+            "",
+            "sec: trace: tie at line 1\n",
         ),
     ];
-    assert_eq!(rt; first_other(&rt, alloc, rows.as_slice())?, None);
+    let alloc = rt.alloc();
+    assert_eq!(rt; first_other(&rt, alloc, ROWS)?, None);
+    for &(words, third, status, out, err) in THIRDS {
+        let row = with_third(third, case(words, FREE, FREE, status, out, err));
+        assert!(rt; answers_so(&rt, alloc, &row)?, "{words}");
+    }
     let made = case(
         "sec check left right --tie --cert made",
         FREE,
         FREE,
         0,
-        two,
+        TWO,
         "",
     );
     let verified = case(
@@ -934,57 +940,57 @@ fn free_latches_may_be_tied(rt: HostRuntime) -> Result<(), Fail> {
 
 #[test]
 fn the_least_run_is_shown_where_it_is_asked_for(rt: HostRuntime) -> Result<(), Fail> {
-    let alloc = rt.alloc();
-    let input = "aag 1 1 0 1 0\n2\n2\n";
-    let turned = "aag 1 1 0 1 0\n2\n3\n";
-    let start = "different k=1 frame=0 output=0\n1\nb0\n01\n\n.\n";
-    let first = "different k=1 frame=0 output=0\n1\nb0\n\n0\n.\n";
-    let third = "different k=3 frame=2 output=0\n1\nb0\n0000\n0\n0\n0\n.\n";
-    let open = "undecided k=1 signals=2 classes=2 unpaired=0\n";
-    let rows = [
-        case("sec check left right --least", FREE, FREE, 1, start, ""),
-        case(
+    const INPUT: &str = "aag 1 1 0 1 0\n2\n2\n";
+    const TURNED: &str = "aag 1 1 0 1 0\n2\n3\n";
+    const START: &str = "different k=1 frame=0 output=0\n1\nb0\n01\n\n.\n";
+    const FIRST: &str = "different k=1 frame=0 output=0\n1\nb0\n\n0\n.\n";
+    const THIRD: &str = "different k=3 frame=2 output=0\n1\nb0\n0000\n0\n0\n0\n.\n";
+    const OPEN: &str = "undecided k=1 signals=2 classes=2 unpaired=0\n";
+    const ROWS: &[Case] = &[
+        ("sec check left right --least", FREE, FREE, 1, START, ""),
+        (
             "sec check left right --least -j 3",
             FREE,
             FREE,
             1,
-            start,
+            START,
             "",
         ),
-        case("sec check left right --least", input, turned, 1, first, ""),
-        case(
+        ("sec check left right --least", INPUT, TURNED, 1, FIRST, ""),
+        (
             "sec check left right -j 3 --least",
-            input,
-            turned,
+            INPUT,
+            TURNED,
             1,
-            first,
+            FIRST,
             "",
         ),
-        case(
+        (
             "sec check left right -k 3 --least",
             DELAY,
             MASKED,
             1,
-            third,
+            THIRD,
             "",
         ),
-        case(
+        (
             "sec check --least left right -k 3 -j 3",
             DELAY,
             MASKED,
             1,
-            third,
+            THIRD,
             "",
         ),
-        case("sec check left right --least", TOGGLE, LOW, 2, open, ""),
+        ("sec check left right --least", TOGGLE, LOW, 2, OPEN, ""),
     ];
-    assert_eq!(rt; first_other(&rt, alloc, rows.as_slice())?, None);
+    let alloc = rt.alloc();
+    assert_eq!(rt; first_other(&rt, alloc, ROWS)?, None);
     let made = case(
         "sec check left right --least --trace made",
         FREE,
         FREE,
         1,
-        start,
+        START,
         "",
     );
     let file = b"1\nb0\n01\n\n.\n".as_slice();
@@ -1010,7 +1016,7 @@ fn traces_with_a_fault_are_refused(rt: HostRuntime) -> Result<(), Fail> {
             &replay("1\nb0\n0\n.\n", 0, "agrees frames=0\n", "")
         )?
     );
-    for (trace, err) in [
+    const FAULTS: &[(&str, &str)] = &[
         ("0\n", "sec: trace: line at line 1\n"),
         ("1\nb1\n0\n\n.\n", "sec: trace: line at line 2\n"),
         ("1\nb0\n00\n\n.\n", "sec: trace: length at line 3\n"),
@@ -1028,7 +1034,8 @@ fn traces_with_a_fault_are_refused(rt: HostRuntime) -> Result<(), Fail> {
         ("1\nb0\n0\n\n", "sec: trace: truncated at line 5\n"),
         ("1\nb0\n0\n\n\n", "sec: trace: truncated at line 6\n"),
         ("1\nb0\n0\n\n\n.", "sec: trace: truncated at line 6\n"),
-    ] {
+    ];
+    for &(trace, err) in FAULTS {
         assert!(rt; answers_so(&rt, alloc, &replay(trace, 4, "", err))?);
     }
     Ok(())
@@ -1078,7 +1085,8 @@ fn tells_without<R: Threads + Wait + Sync>(
 fn an_error_sink_that_fails_takes_a_part(rt: HostRuntime) -> Result<(), Fail> {
     let alloc = rt.alloc();
     let words = "sec check left right -k 2 --trace made";
-    for (call, part) in [(0, ""), (1, "sec: "), (2, "sec: left"), (3, "sec: left: ")] {
+    const PARTS: &[(u64, &str)] = &[(0, ""), (1, "sec: "), (2, "sec: left"), (3, "sec: left: ")];
+    for &(call, part) in PARTS {
         let unread = case(words, TOGGLE, LOW, 5, "", part);
         assert!(rt; tells_without(&rt, alloc, &unread, call)?);
     }
@@ -1122,7 +1130,7 @@ fn certificates_are_verified(rt: HostRuntime) -> Result<(), Fail> {
     let before =
         "seccert 1 k=1 signals=3\nclass l1 r1\nbase r1\n0 6 2 3 4 0\nstep r1\n-2 0 3 8 5 11 9 0\n0 12 4 7 6 11 10 0\nend\n";
     assert!(rt; answers_so(&rt, alloc, &certified(before, 0, "verified\n", ""))?);
-    for (cert, err) in [
+    const FAULTS: &[(&str, &str)] = &[
         (
             "seccert 2 k=1 signals=3 tie=0\nclass l1 r1\nbase r1\n0 6 2 3 4 0\nstep r1\n0 12 4 7 6 11 10 0\nend\n",
             "sec: trace: derivation at line 6\n",
@@ -1157,7 +1165,8 @@ fn certificates_are_verified(rt: HostRuntime) -> Result<(), Fail> {
         ),
         ("seccert 2\n", "sec: trace: line at line 1\n"),
         ("", "sec: trace: truncated at line 1\n"),
-    ] {
+    ];
+    for &(cert, err) in FAULTS {
         assert!(rt; answers_so(&rt, alloc, &certified(cert, 4, "", err))?);
     }
     let none = "sec verify left right none";

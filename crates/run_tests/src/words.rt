@@ -77,7 +77,7 @@ fn said(alloc: Global, text: &str) -> Result<String, AllocError> {
 
 #[test]
 fn plain_words_mean_what_they_say(rt: HostRuntime) -> Result<(), Fail> {
-    let rows = [
+    const PLAIN: &[(&str, &str)] = &[
         ("sec check a b", "check <a> <b> k=1 j=1"),
         ("sec check -k 2 a b", "check <a> <b> k=2 j=1"),
         ("sec check a -j 3 b", "check <a> <b> k=1 j=3"),
@@ -120,7 +120,7 @@ fn plain_words_mean_what_they_say(rt: HostRuntime) -> Result<(), Fail> {
         ("sec batch list", "batch <list> k=1 j=1"),
         ("sec batch -k 16 list -j 4", "batch <list> k=16 j=4"),
     ];
-    for (text, wanted) in rows {
+    for &(text, wanted) in PLAIN {
         assert_eq!(rt; said(rt.alloc(), text)?.as_str(), wanted, "{text}");
     }
     Ok(())
@@ -128,7 +128,7 @@ fn plain_words_mean_what_they_say(rt: HostRuntime) -> Result<(), Fail> {
 
 #[test]
 fn other_spellings_that_clap_takes(rt: HostRuntime) -> Result<(), Fail> {
-    let rows = [
+    const SPELLED: &[(&str, &str)] = &[
         ("sec check a b -k2", "check <a> <b> k=2 j=1"),
         ("sec check a b -k=3", "check <a> <b> k=3 j=1"),
         ("sec check -k3 a b", "check <a> <b> k=3 j=1"),
@@ -165,7 +165,7 @@ fn other_spellings_that_clap_takes(rt: HostRuntime) -> Result<(), Fail> {
         (" check a b", "check <a> <b> k=1 j=1"),
         ("sec check a ", "check <a> <> k=1 j=1"),
     ];
-    for (text, wanted) in rows {
+    for &(text, wanted) in SPELLED {
         assert_eq!(rt; said(rt.alloc(), text)?.as_str(), wanted, "{text}");
     }
     Ok(())
