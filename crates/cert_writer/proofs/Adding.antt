@@ -8,7 +8,7 @@ use Rattle.class_partition.specs.Classes.{Classes, least_of}
 use Rattle.cnf_store.specs.Clauses.{Formula}
 use Rattle.sat_log.specs.Derivations.{Line, IsAccepted}
 use Rattle.corr_certificate.specs.Parts.{Either, base_formula, step_formula}
-use Rattle.cert_writer.specs.Trimming.{IsTrimmed}
+use Rattle.log_trim.specs.Trimming.{IsTrimmed}
 use Rattle.cert_writer.specs.Writing.{part_text, AddsPart, AddsMember, AddsMembers, AreMembers, Derives, IsMember}
 
 -- line 1, in three pieces

@@ -7,7 +7,3 @@ pub mod JoinAgain
 pub mod LinesAgain
 pub mod WholeAgain
 pub mod Counting
-pub mod Renumbering
-pub mod Marking
-pub mod Ranks
-pub mod Kept

@@ -11,7 +11,7 @@ use Rattle.sat_log.specs.Texts.{HasText, log_text}
 use Rattle.frame_unroll.specs.Unrolled.{Unrolling, from_reset, after_classes}
 use Rattle.class_text.specs.ClassLines.{name_of, class_lines}
 use Rattle.corr_certificate.specs.Parts.{Either, base_formula, step_formula}
-use Rattle.cert_writer.specs.Trimming.{IsTrimmed}
+use Rattle.log_trim.specs.Trimming.{IsTrimmed}
 
 -- the depth of the induction, how many signals there are, and whether the free latches are tied
 abbrev pub tie_text : Bool → List ℕ

@@ -3,14 +3,6 @@
 //! 19(7), 2000; derivations: LRAT, CADE 2017.)
 #![tactic(auto)]
 
-mod alone;
-mod definitions;
-mod gates;
-mod lemmas;
-mod local;
-mod shorts;
-mod trimming;
 mod writing;
 
-pub use trimming::trimmed;
 pub use writing::write_cert;

@@ -1,7 +1,7 @@
 //! The certificate of two toggling latches, what becomes of it when lines and bytes change, and where it is cut.
 use crate::circuits::{KEPT, TOGGLE, pair_of, tied_pair_of};
-use cert_writer::trimmed;
 use corr_certificate::{CertFault, CertKind, Checked, verify};
+use log_trim::trimmed;
 use product_machine::Product;
 use sat_log::{LogError, read_log, write_log};
 use std::alloc::{AllocError, Global};

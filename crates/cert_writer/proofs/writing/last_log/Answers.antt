@@ -2,7 +2,7 @@ use Rattle.std.proofs.Common.{◌≡◌, ◌∙◌, ℕ, length, ap, subst}
 use Rattle.class_partition.specs.Classes.{needed}
 use Rattle.corr_certificate.specs.Parts.{step_formula}
 use Rattle.cert_writer.specs.Writing.{Certified}
-use Rattle.cert_writer.proofs.Kept.{trimmed_accepted, trimmed_over}
+use Rattle.log_trim.proofs.Kept.{trimmed_accepted, trimmed_over}
 use Rattle.cert_writer.proofs.Unseen.{step_derived}
 use Rattle.cert_writer.proofs.writing.last_log.Goals as goal
 

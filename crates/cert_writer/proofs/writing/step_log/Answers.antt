@@ -3,9 +3,9 @@ use Rattle.std.specs.Prelude.{IfOk}
 use Rattle.circ_model.specs.Meaning.{places_of}
 use Rattle.sat_log.specs.Derivations.{IsAccepted}
 use Rattle.corr_certificate.specs.Parts.{step_formula}
-use Rattle.cert_writer.specs.Trimming.{IsTrimmed}
+use Rattle.log_trim.specs.Trimming.{IsTrimmed}
 use Rattle.cert_writer.specs.Writing.{Certified}
-use Rattle.cert_writer.proofs.Kept.{trimmed_accepted, trimmed_over}
+use Rattle.log_trim.proofs.Kept.{trimmed_accepted, trimmed_over}
 use Rattle.cert_writer.proofs.Unseen.{step_accepted, no_step_path}
 use Rattle.cert_writer.proofs.writing.step_log.Goals as goal
 

@@ -1,7 +1,7 @@
 use Rattle.std.proofs.Common.{◌≡◌, ℕ, length, subst}
 use Rattle.corr_certificate.specs.Parts.{base_formula}
 use Rattle.cert_writer.specs.Writing.{Certified}
-use Rattle.cert_writer.proofs.Kept.{trimmed_accepted, trimmed_over}
+use Rattle.log_trim.proofs.Kept.{trimmed_accepted, trimmed_over}
 use Rattle.cert_writer.proofs.writing.trim_reset.Goals as goal
 
 pub returns-clause-accepted : goal.returns-clause-accepted

@@ -1,9 +1,0 @@
-use Rattle.std.proofs.Common.{◌≡◌}
-use Rattle.cert_writer.proofs.Ranks.{ranks, kept_to}
-use Rattle.cert_writer.proofs.trimming.add_marked.Given as goal
-
-abbrev pub invariant-loop-i : goal.invariant-loop-i
-invariant-loop-i l = record {
-  kept : l.kept ≡ kept_to l.given l.log l.marks l.i;
-  before : l.before.items ≡ ranks l.marks l.i;
-}

@@ -1,6 +1,0 @@
-use Rattle.std.proofs.Common.{take}
-use Rattle.cert_writer.specs.Trimming.{AddsMarks}
-use Rattle.cert_writer.proofs.trimming.mark_hints.Given as goal
-
-abbrev pub invariant-loop-hint : goal.invariant-loop-hint
-invariant-loop-hint l = AddsMarks l.given (take l.hint-index l.hints) l.i l.initial.marks l.marks

@@ -1,8 +1,0 @@
-use Rattle.cert_writer.proofs.Marking.{SoFar}
-use Rattle.cert_writer.proofs.trimming.needed_lines.Given as goal
-
-abbrev pub invariant-loop-i : goal.invariant-loop-i
-invariant-loop-i l = SoFar l.given l.log l.i l.marks.items
-
-abbrev pub decreases-loop-i : goal.decreases-loop-i
-decreases-loop-i l = l.i

@@ -1,0 +1,4 @@
+pub mod Renumbering
+pub mod Marking
+pub mod Ranks
+pub mod Kept
