@@ -25,7 +25,40 @@ impl<'a, R: Files> FsShelf<'a, R> {
     }
 }
 
-// Reads a file into an empty vector, up to one byte past the limit.
+// Adds a piece to what was read, up to one byte past the limit.
+fn add_piece(piece: &[u8], limit: u64, into: &mut Vec<u8>) -> Result<(), LoadFault>
+    requires limit { limit < 2 ^ 64 - 1 }
+    requires within { vec_len into.old ≤ limit }
+    ensures within { OnOk result (vec_len into.new ≤ limit) }
+    ensures too_long { IsErrOf result LoadFault.TooLong → vec_len into.new ≡ limit + 1 }
+{
+    let room = limit - into.len() as u64;
+    if room < piece.len() as u64 {
+        into.extend_from_slice(&piece[..room as usize + 1])?;
+        return Err(LoadFault::TooLong);
+    }
+    into.extend_from_slice(piece)?;
+    Ok(())
+}
+
+// Reads to the end, piece by piece, into an empty vector, up to one byte past the limit.
+fn read_pieces<F: Read>(file: &mut F, limit: u64, into: &mut Vec<u8>) -> Result<(), LoadFault>
+    requires limit { limit < 2 ^ 64 - 1 }
+    requires emptied { into.old.items ≡ [] }
+    ensures within { OnOk result (vec_len into.new ≤ limit) }
+    ensures too_long { IsErrOf result LoadFault.TooLong → vec_len into.new ≡ limit + 1 }
+{
+    let mut piece = [0u8; 4096];
+    for _ in 0..u64::MAX {
+        let count = file.read(&mut piece).map_err(|_| LoadFault::Failed)?;
+        if count == 0 {
+            return Ok(());
+        }
+        add_piece(&piece[..count], limit, into)?;
+    }
+    Err(LoadFault::Failed)
+}
+
 fn read_file<R: Files>(rt: &R, name: &str, limit: u64, into: &mut Vec<u8>) -> Result<(), LoadFault>
     requires limit { limit < 2 ^ 64 - 1 }
     requires emptied { into.old.items ≡ [] }
@@ -33,20 +66,7 @@ fn read_file<R: Files>(rt: &R, name: &str, limit: u64, into: &mut Vec<u8>) -> Re
     ensures too_long { IsErrOf result LoadFault.TooLong → vec_len into.new ≡ limit + 1 }
 {
     let mut file = fs::open(rt, name).map_err(|_| LoadFault::Failed)?;
-    let mut piece = [0u8; 4096];
-    for _ in 0..u64::MAX {
-        let count = file.read(&mut piece).map_err(|_| LoadFault::Failed)?;
-        if count == 0 {
-            return Ok(());
-        }
-        let room = limit - into.len() as u64;
-        if room < count as u64 {
-            into.extend_from_slice(&piece[..room as usize + 1])?;
-            return Err(LoadFault::TooLong);
-        }
-        into.extend_from_slice(&piece[..count])?;
-    }
-    Err(LoadFault::Failed)
+    read_pieces(&mut file, limit, into)
 }
 
 impl<R: Files> Shelf for FsShelf<'_, R> {
