@@ -4,13 +4,14 @@ ghost use Rattle.std.specs.Prelude.{◌≡◌, ◌<◌, ◌≤◌, ◌+◌, ◌*
 ghost use Rattle.circ_model.specs.Meaning.{bit};
 ghost use Rattle.circ_model.specs.Meaning.{IsSoundPair, row, places_of, outputs_of, latches_of, resets, next_state, value_in};
 ghost use Rattle.circ_model.specs.declared.netlist.Reset.TheVariants.{Free};
-ghost use Rattle.product_machine.specs.States.{nexts, output_pair, ArePartners, IsTiedLatch};
-ghost use Rattle.std.specs.Prelude.{map, slice_index, slice_index_or, true, IfSome, IfNone};
+ghost use Rattle.product_machine.specs.States.{nexts, output_pair, output_pairs, ArePartners, IsTiedLatch};
+ghost use Rattle.std.specs.Prelude.{map, slice_index, slice_index_or, true, IfSome, IfNone, IfOk, OnOk, Err};
+ghost use Rattle.std.specs.Result.{IfErr};
 ghost use Rattle.product_machine.specs.Cells.{EachAt, like_in};
 ghost use Rattle.product_machine.specs.Eval.{IsFrame, Ready};
 ghost use Rattle.product_machine.specs.Cells.{cells};
 ghost use Rattle.product_machine.specs.Faults.{Pairs};
-ghost use Rattle.product_machine.specs.Tables.{Places};
+ghost use Rattle.product_machine.specs.Tables.{Places, AreTables};
 ghost use Rattle.circ_model.specs.Netlist.{own};
 
 use crate::build::{Tables, cells_of, free_count, nexts_of, outputs_of, tables_of};
@@ -72,6 +73,50 @@ impl From<AllocError> for PairFault {
     }
 }
 
+// What a pair keeps beside its netlists.
+struct Parts {
+    table: Vec<Cell>,
+    next_literals: Vec<Lit>,
+    output_literals: Vec<(Lit, Lit)>,
+    tables: Tables,
+}
+
+// Whether the counts of two netlists agree, or the first that differs.
+fn compare(left: &Netlist, right: &Netlist, tied: bool) -> Result<(), PairFault>
+    ensures agree { OnOk result (IsSoundPair (record { left = left.now; right = right.now; tied = tied })) }
+    ensures differ { IfErr result (λ fault. Pairs tied left.now right.now (Err fault)) }
+{
+    let inputs = (left.inputs().len() as u32, right.inputs().len() as u32);
+    if inputs.0 != inputs.1 {
+        return Err(PairFault::Inputs(inputs.0, inputs.1));
+    }
+    let outputs = (left.outputs().len() as u32, right.outputs().len() as u32);
+    if outputs.0 != outputs.1 {
+        return Err(PairFault::Outputs(outputs.0, outputs.1));
+    }
+    let free = (free_count(left), free_count(right));
+    if tied && free.0 != free.1 {
+        return Err(PairFault::Free(free.0, free.1));
+    }
+    Ok(())
+}
+
+fn parts_of(alloc: Global, left: &Netlist, right: &Netlist, tied: bool) -> Result<Parts, AllocError>
+    requires { IsSoundPair (record { left = left.now; right = right.now; tied = tied }) }
+    ensures { IfOk result (λ parts. (parts.table.items ≡ cells (record { left = left.now; right = right.now; tied = tied }))
+        × (parts.next_literals.items ≡ nexts (record { left = left.now; right = right.now; tied = tied }))
+        × (parts.output_literals.items ≡ output_pairs (record { left = left.now; right = right.now; tied = tied }))
+        × AreTables left.now right.now parts.tables.left.items parts.tables.right.items) }
+{
+    let tables = tables_of(alloc, left, right)?;
+    Ok(Parts {
+        table: cells_of(alloc, left, right, tied, &tables)?,
+        next_literals: nexts_of(alloc, left, right, &tables)?,
+        output_literals: outputs_of(alloc, left, right, &tables)?,
+        tables,
+    })
+}
+
 impl Product {
     /// The pair of two netlists, where their counts agree. Each free latch starts with a bit of its own.
     pub fn new(alloc: Global, left: Netlist, right: Netlist) -> Result<Product, PairFault>
@@ -96,26 +141,20 @@ impl Product {
     ) -> Result<Product, PairFault>
         ensures { Pairs tied left right result }
     {
-        let inputs = (left.inputs().len() as u32, right.inputs().len() as u32);
-        if inputs.0 != inputs.1 {
-            return Err(PairFault::Inputs(inputs.0, inputs.1));
-        }
-        let outputs = (left.outputs().len() as u32, right.outputs().len() as u32);
-        if outputs.0 != outputs.1 {
-            return Err(PairFault::Outputs(outputs.0, outputs.1));
-        }
-        let free = (free_count(&left), free_count(&right));
-        if tied && free.0 != free.1 {
-            return Err(PairFault::Free(free.0, free.1));
-        }
-        let tables = tables_of(alloc, &left, &right)?;
-        Ok(Product {
-            table: cells_of(alloc, &left, &right, tied, &tables)?,
-            next_literals: nexts_of(alloc, &left, &right, &tables)?,
-            output_literals: outputs_of(alloc, &left, &right, &tables)?,
+        compare(&left, &right, tied)?;
+        let Parts {
+            table,
+            next_literals,
+            output_literals,
             tables,
+        } = parts_of(alloc, &left, &right, tied)?;
+        Ok(Product {
             left,
             right,
+            table,
+            next_literals,
+            output_literals,
+            tables,
             tied,
         })
     }
