@@ -5,10 +5,9 @@
 use crate::gates::Gates;
 use crate::lines::Lines;
 use crate::places::Places;
-use crate::taking::Rests;
 use class_partition::Classes;
 use cnf_store::Cnf;
-use local_cases::{Alone, Refuter};
+use local_cases::{LocalCases, Refuter};
 use product_machine::Cell;
 use sat_log::Log;
 use std::alloc::{AllocError, Global};
@@ -37,20 +36,19 @@ fn with_both(
     places: u32,
     base: u32,
     gates: Gates,
-    alone: Alone,
+    cases: LocalCases,
 ) -> Result<Lemmas, AllocError> {
     match beginning(alloc, frames, places, base) {
         Ok((refuter, places)) => Ok(Lemmas {
             refuter,
-            alone,
-            rests: Vec::new(alloc),
+            cases,
             gates,
             places,
             lines: Lines::new(alloc, frames.len()),
         }),
         Err(error) => {
             drop(gates);
-            drop(alone);
+            drop(cases);
             Err(error)
         }
     }
@@ -60,8 +58,7 @@ fn with_both(
 #[derive(Drop)]
 pub struct Lemmas {
     pub(crate) refuter: Refuter,
-    pub(crate) alone: Alone,
-    pub(crate) rests: Vec<Rests>,
+    pub(crate) cases: LocalCases,
     pub(crate) gates: Gates,
     pub(crate) places: Places,
     pub(crate) lines: Lines,
@@ -71,8 +68,8 @@ impl Lemmas {
     /// Nothing is derived yet. The frames' clauses are given, and the variables of the frame's places begin past `base`.
     pub fn new(alloc: Global, frames: &Cnf, places: u32, base: u32) -> Result<Lemmas, AllocError> {
         let gates = Gates::new(alloc, frames, places, base)?;
-        match Alone::new(alloc, frames) {
-            Ok(alone) => with_both(alloc, frames, places, base, gates, alone),
+        match LocalCases::new(alloc, frames) {
+            Ok(cases) => with_both(alloc, frames, places, base, gates, cases),
             Err(error) => {
                 drop(gates);
                 Err(error)
@@ -105,7 +102,7 @@ impl Lemmas {
         if place >= classes.len() || self.derive_twins(cells, classes, place)? {
             return Ok(());
         }
-        if self.derive_alone(alloc, classes, place)? {
+        if self.derive_locally(alloc, classes, place)? {
             return Ok(());
         }
         self.derive_whole(alloc, cells, classes, place)

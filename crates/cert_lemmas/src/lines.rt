@@ -4,6 +4,7 @@ ghost use Rattle.std.specs.Prelude.{◌<◌};
 ghost use Rattle.std.specs.List.{All};
 ghost use Rattle.log_check.specs.FirstBad.{Decides};
 
+use crate::taking::Rests;
 use circ_model::Lit;
 use log_check::are_within;
 use sat_log::Log;
@@ -46,8 +47,8 @@ pub(crate) fn number_at(numbers: &[u64], i: u64) -> u64 {
     }
 }
 
-/// The lines that are derived, past so many clauses that are given. Beside them the memory in which a line is made, and which literals
-/// of the frame are assumed in it.
+/// The lines that are derived, past so many clauses that are given. Beside them the memory in which a line is made, which literals
+/// of the frame are assumed in it, and what each line of the last case's refutation rests on.
 #[derive(Drop)]
 pub(crate) struct Lines {
     pub given: u64,
@@ -55,6 +56,7 @@ pub(crate) struct Lines {
     pub literals: Vec<i32>,
     pub hints: Vec<u64>,
     pub assumed: Vec<Lit>,
+    pub rests: Vec<Rests>,
 }
 
 impl Lines {
@@ -65,6 +67,7 @@ impl Lines {
             literals: Vec::new(alloc),
             hints: Vec::new(alloc),
             assumed: Vec::new(alloc),
+            rests: Vec::new(alloc),
         }
     }
 

@@ -2,12 +2,37 @@
 
 ghost use Rattle.std.specs.Prelude.{◌<◌, length};
 
-use crate::lines::{Lines, add_line, number_at};
-use crate::whole_frames::Case;
-use local_cases::{Local, Shorts};
+use crate::lines::{Lines, add_line};
 use log_trim::trim;
 use sat_log::Log;
 use std::alloc::{AllocError, Global};
+
+/// What a hint of a case's refutation stands for.
+pub(crate) enum Hinted {
+    /// A clause of the frames, or a line that was derived before: its number.
+    Clause(u64),
+    /// That the first literal of the case holds.
+    First,
+    /// That the second one does.
+    Second,
+    /// A line of the refutation, counted from 0.
+    Line(u64),
+}
+
+/// A case that is refuted.
+pub(crate) trait Refuted {
+    /// How many clauses its refutation is over.
+    fn clauses(&self) -> u64;
+
+    /// What a hint of the refutation stands for.
+    fn hinted(&self, hint: u64) -> Hinted;
+
+    /// The frames' literal for one of the refutation.
+    fn literal_of(&self, lit: i32) -> i32;
+
+    /// The two literals of the case.
+    fn both(&self) -> (i32, i32);
+}
 
 /// On which of a case's two literals a line rests.
 #[derive(Clone, Copy)]
@@ -30,72 +55,87 @@ fn with(on: Rests, rests: &[Rests], row: u64) -> Rests {
 
 impl Lines {
     /// Takes over the lines that a case's refutation needs, and answers the number of the last one.
-    pub(crate) fn take_over(
+    pub(crate) fn take_over<C: Refuted>(
         &mut self,
         alloc: Global,
-        case: &Case,
+        case: &C,
         log: Log,
     ) -> Result<u64, AllocError> {
-        let kept = trim(alloc, self.given.saturating_add(case.own.len()), log)?;
-        let taken = self.take(alloc, case, &kept);
+        let kept = trim(alloc, case.clauses(), log)?;
+        let taken = self.take(case, &kept);
         drop(kept);
-        taken?;
-        Ok(self.log.len())
+        taken
+    }
+
+    /// Whether the line of a row that was taken over rests on a literal of its case.
+    pub(crate) fn rests(&self, row: u64) -> bool {
+        let none = Rests {
+            first: false,
+            second: false,
+        };
+        let on = with(none, self.rests.as_slice(), row);
+        on.first || on.second
     }
 
     // Takes over the lines of a case's refutation.
-    fn take(&mut self, alloc: Global, case: &Case, kept: &Log) -> Result<(), AllocError> {
+    fn take<C: Refuted>(&mut self, case: &C, kept: &Log) -> Result<u64, AllocError> {
         let start = self.log.len();
-        let mut rests = Vec::new(alloc);
+        self.rests.clear();
         for i in 0..kept.len() {
-            self.take_line(case, start, kept, i, &mut rests)?;
+            self.take_line(case, start, kept, i)?;
         }
-        Ok(())
+        Ok(self.log.len())
     }
 
     // Takes over a line. The last one rests on both literals.
-    fn take_line(
+    fn take_line<C: Refuted>(
         &mut self,
-        case: &Case,
+        case: &C,
         start: u64,
         kept: &Log,
         i: u64,
-        rests: &mut Vec<Rests>,
     ) -> Result<(), AllocError>
         requires { i < length kept.now }
     {
         let count = kept.len();
         let last = i + 1 == count;
-        let on = self.take_hints(case, start, kept.hints(i), rests.as_slice())?;
+        let on = self.take_hints(case, start, kept.hints(i))?;
         let on = Rests {
             first: last || on.first,
             second: last || on.second,
         };
-        rests.push(on)?;
+        self.rests.push(on)?;
         self.take_literals(case, kept.clause(i), on)?;
         add_line(&mut self.log, &self.literals, &self.hints)
     }
 
     // The literals of a line, with those of the case that it rests on.
-    fn take_literals(&mut self, case: &Case, clause: &[i32], on: Rests) -> Result<(), AllocError> {
+    fn take_literals<C: Refuted>(
+        &mut self,
+        case: &C,
+        clause: &[i32],
+        on: Rests,
+    ) -> Result<(), AllocError> {
         self.literals.clear();
-        self.literals.extend_from_slice(clause)?;
+        for lit in clause {
+            self.literals.push(case.literal_of(*lit))?;
+        }
+        let (first, second) = case.both();
         if on.first {
-            self.literals.push(case.first.wrapping_neg())?;
+            self.literals.push(first.wrapping_neg())?;
         }
         if on.second {
-            self.literals.push(case.second.wrapping_neg())?;
+            self.literals.push(second.wrapping_neg())?;
         }
         Ok(())
     }
 
     // The hints of a line as they are taken over, where the case's lines begin past `start`. Answers what the line rests on.
-    fn take_hints(
+    fn take_hints<C: Refuted>(
         &mut self,
-        case: &Case,
+        case: &C,
         start: u64,
         hints: &[u64],
-        rests: &[Rests],
     ) -> Result<Rests, AllocError> {
         let mut on = Rests {
             first: false,
@@ -103,126 +143,25 @@ impl Lines {
         };
         self.hints.clear();
         for hint in hints {
-            on = self.take_hint(case, start, *hint, rests, on)?;
+            on = self.take_hint(case.hinted(*hint), start, on)?;
         }
         Ok(on)
     }
 
-    fn take_hint(
-        &mut self,
-        case: &Case,
-        start: u64,
-        hint: u64,
-        rests: &[Rests],
-        on: Rests,
-    ) -> Result<Rests, AllocError> {
-        if hint <= self.given {
-            self.hints.push(hint)?;
-            return Ok(on);
-        }
-        let past = hint - self.given;
-        if past == 1 {
-            return Ok(Rests { first: true, ..on });
-        }
-        if past == 2 {
-            return Ok(Rests { second: true, ..on });
-        }
-        let own = case.own.len();
-        if past <= own {
-            let line = number_at(&case.lines, past - 3);
-            self.hints.push(self.given.saturating_add(line))?;
-            return Ok(on);
-        }
-        let row = past - own;
-        self.hints
-            .push(self.given.saturating_add(start).saturating_add(row))?;
-        Ok(with(on, rests, row - 1))
-    }
-
-    /// Takes over the lines that a refutation over clauses of their own needs, whose last two say that two literals hold. Answers the
-    /// number of the last one.
-    pub(crate) fn take_small(
-        &mut self,
-        local: &Local,
-        shorts: &mut Shorts,
-        kept: &Log,
-        rests: &mut Vec<Rests>,
-        case: (i32, i32),
-    ) -> Result<u64, AllocError> {
-        let start = self.log.len();
-        rests.clear();
-        for i in 0..kept.len() {
-            self.take_small_line(local, shorts, kept, rests, case, start, i)?;
-        }
-        Ok(self.log.len())
-    }
-
-    // Takes over a line of it.
-    fn take_small_line(
-        &mut self,
-        local: &Local,
-        shorts: &mut Shorts,
-        kept: &Log,
-        rests: &mut Vec<Rests>,
-        case: (i32, i32),
-        start: u64,
-        i: u64,
-    ) -> Result<(), AllocError>
-        requires { i < length kept.now }
-    {
-        let count = kept.len();
-        let last = i + 1 == count;
-        let on = self.take_small_hints(local, start, kept.hints(i), rests.as_slice())?;
-        let on = Rests {
-            first: last || on.first,
-            second: last || on.second,
-        };
-        rests.push(on)?;
-        self.literals.clear();
-        for lit in kept.clause(i) {
-            self.literals.push(local.literal(*lit))?;
-        }
-        if on.first {
-            self.literals.push(case.0.wrapping_neg())?;
-        }
-        if on.second {
-            self.literals.push(case.1.wrapping_neg())?;
-        }
-        add_line(&mut self.log, &self.literals, &self.hints)?;
-        if !on.first && !on.second {
-            shorts.note(&self.literals, self.log.len())?;
-        }
-        Ok(())
-    }
-
-    // The hints of a line of it as they are taken over. Answers what the line rests on.
-    fn take_small_hints(
-        &mut self,
-        local: &Local,
-        start: u64,
-        hints: &[u64],
-        rests: &[Rests],
-    ) -> Result<Rests, AllocError> {
-        let total = local.cnf.len();
-        let mut on = Rests {
-            first: false,
-            second: false,
-        };
-        self.hints.clear();
-        for hint in hints {
-            if *hint > total {
-                let row = *hint - total;
+    fn take_hint(&mut self, hinted: Hinted, start: u64, on: Rests) -> Result<Rests, AllocError> {
+        match hinted {
+            Hinted::First => Ok(Rests { first: true, ..on }),
+            Hinted::Second => Ok(Rests { second: true, ..on }),
+            Hinted::Clause(number) => {
+                self.hints.push(number)?;
+                Ok(on)
+            }
+            Hinted::Line(row) => {
                 let before = self.given.saturating_add(start);
-                self.hints.push(before.saturating_add(row))?;
-                on = with(on, rests, row - 1);
-            } else if *hint == total {
-                on = Rests { second: true, ..on };
-            } else if *hint + 1 == total {
-                on = Rests { first: true, ..on };
-            } else {
-                self.hints.push(local.source(*hint))?;
+                self.hints
+                    .push(before.saturating_add(row).saturating_add(1))?;
+                Ok(with(on, self.rests.as_slice(), row))
             }
         }
-        Ok(on)
     }
 }

@@ -1,7 +1,9 @@
 //! Cases over all clauses of the frames, and the two clauses of each place of the cone of which they are derived.
 
 use crate::lemmas::Lemmas;
+use crate::lines::number_at;
 use crate::places::{Derived, Places};
+use crate::taking::{Hinted, Refuted};
 use class_partition::Classes;
 use cnf_store::Cnf;
 use local_cases::add_clause;
@@ -17,13 +19,47 @@ fn no_clauses(alloc: Global, vars: u32) -> Result<Cnf, AllocError> {
     }
 }
 
-/// A case: that two literals hold. The clauses beside those of the frames are the two, and then those of earlier lines.
+// A case: that two literals hold. The clauses beside those of the frames, so many as are given, are the two, and then those of earlier
+// lines.
 #[derive(Drop)]
-pub(crate) struct Case {
-    pub first: i32,
-    pub second: i32,
-    pub own: Cnf,
-    pub lines: Vec<u64>,
+struct Case {
+    given: u64,
+    first: i32,
+    second: i32,
+    own: Cnf,
+    lines: Vec<u64>,
+}
+
+impl Refuted for Case {
+    fn clauses(&self) -> u64 {
+        self.given.saturating_add(self.own.len())
+    }
+
+    fn hinted(&self, hint: u64) -> Hinted {
+        if hint <= self.given {
+            return Hinted::Clause(hint);
+        }
+        let past = hint - self.given;
+        let own = self.own.len();
+        if past == 1 {
+            Hinted::First
+        } else if past == 2 {
+            Hinted::Second
+        } else if past <= own {
+            let line = number_at(&self.lines, past - 3);
+            Hinted::Clause(self.given.saturating_add(line))
+        } else {
+            Hinted::Line(past - own - 1)
+        }
+    }
+
+    fn literal_of(&self, lit: i32) -> i32 {
+        lit
+    }
+
+    fn both(&self) -> (i32, i32) {
+        (self.first, self.second)
+    }
 }
 
 impl Case {
@@ -86,6 +122,7 @@ impl Lemmas {
         second: i32,
     ) -> Result<u64, AllocError> {
         let mut case = Case {
+            given: self.lines.given,
             first,
             second,
             own: no_clauses(alloc, self.refuter.vars())?,

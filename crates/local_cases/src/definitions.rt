@@ -9,7 +9,7 @@ use std::alloc::{AllocError, Global};
 
 /// What a variable is, with the numbers of the clauses that say so.
 #[derive(Clone, Copy)]
-pub enum Definition {
+pub(crate) enum Definition {
     /// It is free.
     Free,
     /// It is false.
@@ -22,7 +22,7 @@ pub enum Definition {
 
 /// By variable, what it is.
 #[derive(Drop)]
-pub struct Definitions {
+pub(crate) struct Definitions {
     of: Vec<Definition>,
 }
 
@@ -90,7 +90,7 @@ fn note(frames: &Cnf, number: u64, of: &mut [Definition])
 
 impl Definitions {
     /// Of the variables of frames.
-    pub fn new(alloc: Global, frames: &Cnf) -> Result<Definitions, AllocError> {
+    pub(crate) fn new(alloc: Global, frames: &Cnf) -> Result<Definitions, AllocError> {
         let size = (frames.vars() as usize).saturating_add(1);
         let mut of = vec![in alloc; Definition::Free; size]?;
         let total = frames.len();
@@ -101,12 +101,12 @@ impl Definitions {
     }
 
     /// How many variables there are at most.
-    pub fn len(&self) -> usize {
+    pub(crate) fn len(&self) -> usize {
         self.of.len()
     }
 
     /// What a variable is.
-    pub fn of(&self, var: u32) -> Definition {
+    pub(crate) fn of(&self, var: u32) -> Definition {
         if (var as usize) < self.of.len() {
             self.of[var as usize]
         } else {

@@ -6,14 +6,11 @@
 //! Which clauses are taken is a hint. What is made of a refutation is checked where it is used.
 #![tactic(auto)]
 
-mod alone;
+mod cases;
 mod definitions;
 mod local;
 mod refuter;
 mod shorts;
 
-pub use alone::Alone;
-pub use definitions::Definition;
-pub use local::Local;
+pub use cases::LocalCases;
 pub use refuter::{Refuter, add_clause};
-pub use shorts::Shorts;

@@ -4,7 +4,9 @@
 
 use crate::definitions::Definition;
 use crate::refuter::add_clause;
+use crate::shorts::{Shorts, literals_of};
 use cnf_store::Cnf;
+use sat_log::Log;
 use std::alloc::{AllocError, Global};
 
 // So many variables at most.
@@ -12,7 +14,7 @@ const MOST: u32 = 2_000_000_000;
 
 /// Members, each a variable of the frames with a number here; and clauses over these, each with its number there.
 #[derive(Drop)]
-pub struct Local {
+pub(crate) struct Local {
     // by variable of the frames: the number that it had last
     numbers: Vec<u32>,
     pub members: Vec<u32>,
@@ -29,7 +31,7 @@ fn signed_like(var: u32, lit: i32) -> i32 {
 
 impl Local {
     /// No members, of so many variables.
-    pub fn new(alloc: Global, vars: u32) -> Result<Local, AllocError> {
+    pub(crate) fn new(alloc: Global, vars: u32) -> Result<Local, AllocError> {
         let size = (vars as usize).saturating_add(1);
         let cnf = Cnf::new(alloc, 0)?;
         Ok(Local {
@@ -49,7 +51,7 @@ impl Local {
     }
 
     /// The variables of two literals alone, and no clauses.
-    pub fn begin(&mut self, first: i32, second: i32) -> Result<(), AllocError> {
+    pub(crate) fn begin(&mut self, first: i32, second: i32) -> Result<(), AllocError> {
         self.clear();
         self.meet(first)?;
         self.meet(second)?;
@@ -57,7 +59,7 @@ impl Local {
     }
 
     /// Whether the variables of all literals are members.
-    pub fn has_all(&self, clause: &[i32]) -> bool {
+    pub(crate) fn has_all(&self, clause: &[i32]) -> bool {
         for lit in clause {
             if self.known(lit.unsigned_abs()).is_none() {
                 return false;
@@ -67,7 +69,7 @@ impl Local {
     }
 
     /// The number of a variable here, counted from 0, where it is a member.
-    pub fn known(&self, var: u32) -> Option<u32> {
+    pub(crate) fn known(&self, var: u32) -> Option<u32> {
         let at = var as usize;
         if at >= self.numbers.len() {
             return None;
@@ -97,7 +99,7 @@ impl Local {
     }
 
     /// Adds a clause over the frames' variables, with its number there.
-    pub fn add(&mut self, clause: &[i32], source: u64) -> Result<(), AllocError> {
+    pub(crate) fn add(&mut self, clause: &[i32], source: u64) -> Result<(), AllocError> {
         let mut own = 0;
         self.clause.clear();
         for lit in clause {
@@ -112,13 +114,19 @@ impl Local {
     }
 
     /// Adds that a variable is equal to a literal, by two clauses.
-    pub fn equate(&mut self, var: i32, lit: i32, needs: u64, given: u64) -> Result<(), AllocError> {
+    pub(crate) fn equate(
+        &mut self,
+        var: i32,
+        lit: i32,
+        needs: u64,
+        given: u64,
+    ) -> Result<(), AllocError> {
         self.add(&[var.wrapping_neg(), lit], needs)?;
         self.add(&[var, lit.wrapping_neg()], given)
     }
 
     /// Adds what defines a variable.
-    pub fn define(&mut self, var: i32, what: Definition) -> Result<(), AllocError> {
+    pub(crate) fn define(&mut self, var: i32, what: Definition) -> Result<(), AllocError> {
         match what {
             Definition::Free => Ok(()),
             Definition::Low(number) => self.add(&[var.wrapping_neg()], number),
@@ -133,8 +141,44 @@ impl Local {
         }
     }
 
+    /// Adds the short lines of a log over the members, past so many clauses that are given.
+    pub(crate) fn recall(
+        &mut self,
+        shorts: &Shorts,
+        log: &Log,
+        given: u64,
+    ) -> Result<(), AllocError> {
+        for j in 0..self.members.len() {
+            let var = self.member(j);
+            self.recall_at(shorts, log, given, var)?;
+        }
+        Ok(())
+    }
+
+    // Adds those of which a variable is the highest.
+    fn recall_at(
+        &mut self,
+        shorts: &Shorts,
+        log: &Log,
+        given: u64,
+        var: u32,
+    ) -> Result<(), AllocError> {
+        let mut at = shorts.last_at(var);
+        for _ in 0..shorts.len() {
+            let Some((number, before)) = shorts.line(at) else {
+                return Ok(());
+            };
+            at = before;
+            let clause = literals_of(log, number);
+            if self.has_all(clause) {
+                self.add(clause, given.saturating_add(number))?;
+            }
+        }
+        Ok(())
+    }
+
     /// The variable of a member, counted from 0; past the end none, 0.
-    pub fn member(&self, j: usize) -> u32 {
+    pub(crate) fn member(&self, j: usize) -> u32 {
         if j < self.members.len() {
             self.members[j]
         } else {
@@ -143,7 +187,7 @@ impl Local {
     }
 
     /// The frames' literal for one here.
-    pub fn literal(&self, lit: i32) -> i32 {
+    pub(crate) fn literal(&self, lit: i32) -> i32 {
         let at = lit.unsigned_abs().saturating_sub(1) as usize;
         if at < self.members.len() {
             signed_like(self.members[at], lit)
@@ -153,7 +197,7 @@ impl Local {
     }
 
     /// The number in the frames of a clause here, counted from 1.
-    pub fn source(&self, number: u64) -> u64 {
+    pub(crate) fn source(&self, number: u64) -> u64 {
         let at = number.saturating_sub(1);
         if at < self.sources.len() as u64 {
             self.sources[at as usize]

@@ -12,7 +12,7 @@ const NONE: u32 = u32::MAX;
 
 /// The numbers of such lines, and activities by variable.
 #[derive(Drop)]
-pub struct Shorts {
+pub(crate) struct Shorts {
     lines: Vec<u64>,
     // by variable, the last of them of which it is the highest; and of each, the one before it with the same
     last: Vec<u32>,
@@ -22,7 +22,7 @@ pub struct Shorts {
 
 impl Shorts {
     /// None yet, over so many variables.
-    pub fn new(alloc: Global, vars: u32) -> Result<Shorts, AllocError> {
+    pub(crate) fn new(alloc: Global, vars: u32) -> Result<Shorts, AllocError> {
         let size = (vars as usize).saturating_add(1);
         let last = vec![in alloc; NONE; size]?;
         Ok(Shorts {
@@ -34,7 +34,7 @@ impl Shorts {
     }
 
     /// Takes a line in, where it is short.
-    pub fn note(&mut self, clause: &[i32], number: u64) -> Result<(), AllocError> {
+    pub(crate) fn note(&mut self, clause: &[i32], number: u64) -> Result<(), AllocError> {
         if clause.len() > LONGEST || clause.len() < 2 {
             return Ok(());
         }
@@ -53,7 +53,7 @@ impl Shorts {
     }
 
     /// The last of which a variable is the highest.
-    pub fn last_at(&self, var: u32) -> u32 {
+    pub(crate) fn last_at(&self, var: u32) -> u32 {
         if (var as usize) < self.last.len() {
             self.last[var as usize]
         } else {
@@ -62,7 +62,7 @@ impl Shorts {
     }
 
     /// The number of a line, and the one before it with the same highest variable.
-    pub fn line(&self, at: u32) -> Option<(u64, u32)> {
+    pub(crate) fn line(&self, at: u32) -> Option<(u64, u32)> {
         let row = at as usize;
         if row < self.lines.len() && row < self.before.len() {
             Some((self.lines[row], self.before[row]))
@@ -72,12 +72,12 @@ impl Shorts {
     }
 
     /// How many there are.
-    pub fn len(&self) -> usize {
+    pub(crate) fn len(&self) -> usize {
         self.lines.len()
     }
 
     /// How active a variable was.
-    pub fn activity(&self, var: u32) -> u32 {
+    pub(crate) fn activity(&self, var: u32) -> u32 {
         if (var as usize) < self.activity.len() {
             self.activity[var as usize]
         } else {
@@ -86,7 +86,7 @@ impl Shorts {
     }
 
     /// Takes in how active a variable was.
-    pub fn set_activity(&mut self, var: u32, activity: u32) {
+    pub(crate) fn set_activity(&mut self, var: u32, activity: u32) {
         if (var as usize) < self.activity.len() {
             self.activity[var as usize] = activity;
         }
@@ -94,7 +94,7 @@ impl Shorts {
 }
 
 /// The literals of a line, counted from 1; none past the end.
-pub fn literals_of(log: &Log, number: u64) -> &[i32] {
+pub(crate) fn literals_of(log: &Log, number: u64) -> &[i32] {
     if number > 0 && number <= log.len() {
         log.clause(number - 1)
     } else {
