@@ -1,36 +1,35 @@
 -- The parts of members, added one after another.
 use Rattle.std.specs.Prelude.{OnOk, Result, Ok, Err}
-use Rattle.std.proofs.Common.{◌≡◌, ◌∙◌, ◌<◌, ◌≤◌, ◌-◌, ◌+◌, ℕ, suc, Bool, List, [], ◌∷◌, ◌++◌, codes, length, sym, subst, ap, arith, refl, append_assoc}
+use Rattle.std.proofs.Common.{◌≡◌, ◌∙◌, ◌<◌, ◌≤◌, ◌-◌, ◌+◌, ℕ, suc, Bool, List, [], ◌∷◌, ◌++◌, codes, sym, subst, ap, arith, refl, append_assoc}
 use Rattle.std.specs.List.{range_with_len}
 use Rattle.std.proofs.lemmas.Bool.{eq-eqb, ne_eqb}
 use Rattle.circ_model.specs.Meaning.{Pair, places_of}
 use Rattle.class_partition.specs.Classes.{Classes, least_of}
 use Rattle.cnf_store.specs.Clauses.{Formula}
-use Rattle.sat_log.specs.Derivations.{Line, IsAccepted}
+use Rattle.sat_log.specs.Derivations.{Line}
 use Rattle.corr_certificate.specs.Parts.{Either, base_formula, step_formula}
-use Rattle.log_trim.specs.Trimming.{IsTrimmed}
-use Rattle.cert_writer.specs.Writing.{part_text, AddsPart, AddsMember, AddsMembers, AreMembers, Derives, IsMember}
+use Rattle.cert_writer.specs.Writing.{IsTrimmedLog, part_text, AddsPart, AddsMember, AddsMembers, AreMembers, Derives, IsMember}
 
 -- line 1, in three pieces
 pub head_is : (t u v w a b d : List ℕ) → u ≡ t ++ a → v ≡ u ++ b → w ≡ v ++ d → w ≡ t ++ (a ++ (b ++ d))
 head_is t u v w a b d e f g = g ∙ ap (λ (l : List ℕ). l ++ d) (f ∙ ap (λ (l : List ℕ). l ++ b) e) ∙ append_assoc (t ++ a) b d ∙ append_assoc t a (b ++ d)
 
 -- a log that is accepted and trimmed, whose part is added
-derived : (pair : Pair) (keyword : List ℕ) (p : ℕ) (formula : Formula) (log : List Line) (before after : List ℕ) → IsAccepted formula log → IsTrimmed (length formula.clauses) log → AddsPart pair keyword p log before after → Derives formula log
-derived pair keyword p formula log before after accepted trimmed adds = record { accepted = accepted; trimmed = trimmed; lines = adds.lines; hints = adds.hints }
+derived : (pair : Pair) (keyword : List ℕ) (p : ℕ) (formula : Formula) (log : List Line) (before after : List ℕ) → IsTrimmedLog formula log → AddsPart pair keyword p log before after → Derives formula log
+derived pair keyword p formula log before after is adds = record { accepted = is.accepted; trimmed = is.trimmed; lines = adds.lines; hints = adds.hints }
 
 -- a member's two parts, one after the other
 pub both_parts : {A E : Type 0} (pair : Pair) (k : ℕ) (classes : Classes) (p : ℕ) (before middle after : List ℕ) (base step : List Line) (r : Result A E)
-    → IsAccepted (base_formula pair k classes p) base → IsTrimmed (length (base_formula pair k classes p).clauses) base → AddsPart pair (codes "base ") p base before middle
-    → IsAccepted (step_formula pair k classes p) step → IsTrimmed (length (step_formula pair k classes p).clauses) step → OnOk r (AddsPart pair (codes "step ") p step middle after) → OnOk r (AddsMember pair k classes p before after)
-both_parts pair k classes p before middle after base step (Ok x) ba bt b sa st s = record {
+    → IsTrimmedLog (base_formula pair k classes p) base → AddsPart pair (codes "base ") p base before middle
+    → IsTrimmedLog (step_formula pair k classes p) step → OnOk r (AddsPart pair (codes "step ") p step middle after) → OnOk r (AddsMember pair k classes p before after)
+both_parts pair k classes p before middle after base step (Ok x) bl b sl s = record {
   base = base;
   step = step;
-  base_derives = derived pair (codes "base ") p (base_formula pair k classes p) base before middle ba bt b;
-  step_derives = derived pair (codes "step ") p (step_formula pair k classes p) step middle after sa st s;
+  base_derives = derived pair (codes "base ") p (base_formula pair k classes p) base before middle bl b;
+  step_derives = derived pair (codes "step ") p (step_formula pair k classes p) step middle after sl s;
   is = s.is ∙ ap (λ (l : List ℕ). l ++ part_text pair (codes "step ") p step) b.is ∙ append_assoc before (part_text pair (codes "base ") p base) (part_text pair (codes "step ") p step);
 }
-both_parts pair k classes p before middle after base step (Err x) ba bt b sa st s = s
+both_parts pair k classes p before middle after base step (Err x) bl b sl s = s
 
 -- the parts of all places before this one stand after a text
 pub record SoFar (pair : Pair) (k : ℕ) (classes : Classes) (place : ℕ) (before text : List ℕ) : Type 0 where

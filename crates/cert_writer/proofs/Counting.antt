@@ -1,9 +1,13 @@
--- A question has as many clauses whichever its literals are.
-use Rattle.std.proofs.Common.{◌≡◌, ◌+◌, ◌*◌, ◌-◌, ℕ, ℤ, true, List, [], ◌∷◌, ◌++◌, length, flat_map, map, refl, arith, length-append}
+-- A question has as many clauses whichever its literals are, and a log is trimmed over so many.
+use Rattle.std.proofs.Common.{Result, Ok, Err, IfOk, ◌≡◌, ◌+◌, ◌*◌, ◌-◌, ℕ, ℤ, true, List, [], ◌∷◌, ◌++◌, length, flat_map, map, refl, sym, subst, arith, length-append}
 use Rattle.std.specs.List.{range_with_len}
 use Rattle.circ_model.specs.Meaning.{places_of}
+use Rattle.cnf_store.specs.Clauses.{Formula}
+use Rattle.sat_log.specs.Derivations.{Line, IsAccepted}
+use Rattle.log_trim.specs.Trimming.{IsTrimmed}
 use Rattle.frame_unroll.specs.Frames.{cnf_literal, literal_in, differ_clauses, question}
 use Rattle.frame_unroll.specs.Unrolled.{Unrolling, clauses_of, plain_clauses, asks, asking}
+use Rattle.cert_writer.specs.Writing.{IsTrimmedLog}
 
 same_lengths : (f g : ℕ → List (List ℤ)) (xs : List ℕ) → ((x : ℕ) → length (f x) ≡ length (g x)) → length (flat_map f xs) ≡ length (flat_map g xs)
 same_lengths f g [] same = refl
@@ -30,3 +34,9 @@ asked_alike u a b c d first last =
     let n : ℕ = places_of u.pair in
     same_behind (question (literal_in n) (u.frames * n) a b first (last - first + 1)) (question (literal_in n) (u.frames * n) c d first (last - first + 1)) (plain_clauses u)
     (questions_alike (literal_in n) (u.frames * n) a b c d first (last - first + 1))
+
+-- what a trimmed log is over a formula with so many clauses
+pub trimmed_over : {E : Type 0} (formula : Formula) (given : ℕ) (lines : List Line) (r : Result (List Line) E) → given ≡ length formula.clauses → IsAccepted formula lines
+    → IfOk r (λ kept. (f : Formula) → length f.clauses ≡ given → IsAccepted f lines → IsAccepted f kept) → IfOk r (IsTrimmed given) → IfOk r (IsTrimmedLog formula)
+trimmed_over formula given lines (Ok kept) e is accepted trimmed = record { accepted = accepted formula (sym e) is; trimmed = subst (λ (n : ℕ). IsTrimmed n kept) e trimmed }
+trimmed_over formula given lines (Err x) e is accepted trimmed = trimmed

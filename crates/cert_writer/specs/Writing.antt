@@ -45,6 +45,18 @@ pub record Certified : Type 0 where
   pub k : ℕ
   pub classes : Classes
 
+-- a log that is accepted, in which no line but the last stands unused
+pub record IsTrimmedLog (formula : Formula) (log : List Line) : Type 0 where
+  pub accepted : IsAccepted formula log
+  pub trimmed : IsTrimmed (length formula.clauses) log
+
+-- of the question from reset of a place, and of the one in the last frame
+abbrev pub IsBaseLog : Certified → ℕ → List Line → Type 0
+IsBaseLog s p log = IsTrimmedLog (base_formula s.pair s.k s.classes p) log
+
+abbrev pub IsStepLog : Certified → ℕ → List Line → Type 0
+IsStepLog s p log = IsTrimmedLog (step_formula s.pair s.k s.classes p) log
+
 -- the frames of the two questions, and how many clauses each has with a question
 pub record AreFrames (pair : Pair) (k : ℕ) (classes : Classes) (base step : Unrolling) (base_clauses step_clauses : ℕ) : Type 0 where
   pub proved : AreProved pair k classes

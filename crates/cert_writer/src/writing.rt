@@ -14,8 +14,7 @@ ghost use Rattle.sat_log.specs.Texts.{HasText, log_text};
 ghost use Rattle.class_text.specs.ClassLines.{name_of};
 ghost use Rattle.corr_certificate.specs.Certificate.{IsSupported, PairOutputs};
 ghost use Rattle.corr_certificate.specs.Parts.{base_formula, step_formula};
-ghost use Rattle.log_trim.specs.Trimming.{IsTrimmed};
-ghost use Rattle.cert_writer.specs.Writing.{head_text, tie_text, AreProved, AddsPart, AddsMember, AddsMembers, IsCertificate};
+ghost use Rattle.cert_writer.specs.Writing.{head_text, tie_text, AreProved, IsBaseLog, IsStepLog, AddsPart, AddsMember, AddsMembers, IsCertificate};
 
 use cert_lemmas::Lemmas;
 use circ_model::{Lit, Signal};
@@ -91,16 +90,21 @@ impl<'p> Model for Frames<'p> {
     ghost invariant = { λ f. AreFrames f.product.now f.k f.classes.now f.base f.step f.base_clauses f.step_clauses };
 }
 
-// The solvers of their questions, by the memory in which they are asked; what is derived in the last frame, and the frames that
-// a log is checked over; and the same for the first frame from reset.
+// What is derived of the last of some frames, and these frames, over which a log is checked.
+#[derive(Drop)]
+struct Deriver<'p> {
+    lemmas: Lemmas,
+    frames: Unrolled<'p>,
+}
+
+// The solvers of their questions, by the memory in which they are asked; what is derived in the last frame of a step, and in the first
+// one from reset.
 #[derive(Drop)]
 struct Solvers<'p> {
     base: Workspace,
     step: Workspace,
-    lemmas: Lemmas,
-    asked: Unrolled<'p>,
-    first: Lemmas,
-    resets: Unrolled<'p>,
+    last: Deriver<'p>,
+    first: Deriver<'p>,
     // whether a question from reset was hard
     is_hard: bool,
 }
@@ -232,11 +236,11 @@ fn deriver_of<'p>(
     frames: Unrolled<'p>,
     places: u32,
     base: u32,
-) -> Result<(Lemmas, Unrolled<'p>), AllocError>
-    ensures { IfOk result (λ r. r.1 ≡ frames.entry) }
+) -> Result<Deriver<'p>, AllocError>
+    ensures { IfOk result (λ deriver. deriver.frames ≡ frames.entry) }
 {
     match Lemmas::new(alloc, frames.cnf(), places, base) {
-        Ok(lemmas) => Ok((lemmas, frames)),
+        Ok(lemmas) => Ok(Deriver { lemmas, frames }),
         Err(error) => {
             drop(frames);
             Err(error)
@@ -250,10 +254,10 @@ fn step_deriver<'p>(
     product: &'p Product,
     k: u32,
     classes: &Classes,
-) -> Result<(Lemmas, Unrolled<'p>), AllocError>
+) -> Result<Deriver<'p>, AllocError>
     requires few { k ≤ 16 }
     requires places { length classes.now.least ≡ places_of product.now }
-    ensures { IfOk result (λ r. r.1 ≡ after_classes product.entry.now k classes.now) }
+    ensures { IfOk result (λ deriver. deriver.frames ≡ after_classes product.entry.now k classes.now) }
 {
     let frames = Unrolled::step_frames(alloc, product, k, classes)?;
     let base = k.saturating_mul(product.len());
@@ -261,11 +265,8 @@ fn step_deriver<'p>(
 }
 
 // Of the first frame from reset.
-fn reset_deriver<'p>(
-    alloc: Global,
-    product: &'p Product,
-) -> Result<(Lemmas, Unrolled<'p>), AllocError>
-    ensures { IfOk result (λ r. r.1 ≡ from_reset product.entry.now 1) }
+fn reset_deriver<'p>(alloc: Global, product: &'p Product) -> Result<Deriver<'p>, AllocError>
+    ensures { IfOk result (λ deriver. deriver.frames ≡ from_reset product.entry.now 1) }
 {
     let frames = Unrolled::reset_frames(alloc, product, 1)?;
     deriver_of(alloc, frames, product.len(), 0)
@@ -280,26 +281,39 @@ fn solvers_of<'p>(
 ) -> Result<Solvers<'p>, AllocError>
     requires few { k ≤ 16 }
     requires places { length classes.now.least ≡ places_of product.now }
-    ensures asked { IfOk result (λ work. work.asked ≡ after_classes product.entry.now k classes.now) }
-    ensures resets { IfOk result (λ work. work.resets ≡ from_reset product.entry.now 1) }
+    ensures last { IfOk result (λ work. work.last.frames ≡ after_classes product.entry.now k classes.now) }
+    ensures first { IfOk result (λ work. work.first.frames ≡ from_reset product.entry.now 1) }
 {
-    let (lemmas, asked) = step_deriver(alloc, product, k, classes)?;
+    let last = step_deriver(alloc, product, k, classes)?;
     match reset_deriver(alloc, product) {
-        Ok((first, resets)) => Ok(Solvers {
+        Ok(first) => Ok(Solvers {
             base: Workspace::new(),
             step: Workspace::new(),
-            lemmas,
-            asked,
+            last,
             first,
-            resets,
             is_hard: false,
         }),
         Err(error) => {
-            drop(lemmas);
-            drop(asked);
+            drop(last);
             Err(error)
         }
     }
+}
+
+// A log from reset, trimmed.
+fn trim_base(alloc: Global, frames: &Frames<'_>, place: u32, log: Log) -> Result<Log, AllocError>
+    requires { IsAccepted (base_formula frames.now.pair frames.now.k frames.now.classes place) log }
+    ensures { IfOk result (IsBaseLog frames.now place) }
+{
+    trim(alloc, frames.base_clauses, log)
+}
+
+// A log of the last frame, trimmed.
+fn trim_step(alloc: Global, frames: &Frames<'_>, place: u32, log: Log) -> Result<Log, AllocError>
+    requires { IsAccepted (step_formula frames.now.pair frames.now.k frames.now.classes place) log }
+    ensures { IfOk result (IsStepLog frames.now place) }
+{
+    trim(alloc, frames.step_clauses, log)
 }
 
 // The log, trimmed, that no run has a place and its class's least place apart in its first k frames.
@@ -310,14 +324,13 @@ fn base_log(
     place: u32,
 ) -> Result<Log, AllocError>
     requires place { place < places_of frames.now.pair }
-    ensures accepted { IfOk result (IsAccepted (base_formula frames.now.pair frames.now.k frames.now.classes place)) }
-    ensures trimmed { IfOk result (IsTrimmed (length (base_formula frames.now.pair frames.now.k frames.now.classes place).clauses)) }
+    ensures { IfOk result (IsBaseLog frames.now place) }
 {
     let _places = frames.product.len();
     let (a, b) = frames.classes.needed(place);
     let k = frames.k;
     match frames.base.find_in(alloc, work, a, b, 0, k - 1)? {
-        Separation::None(log) => trim(alloc, frames.base_clauses, log),
+        Separation::None(log) => trim_base(alloc, frames, place, log),
         Separation::Path(_seen) => unreachable!(),
     }
 }
@@ -330,14 +343,13 @@ fn step_log(
     place: u32,
 ) -> Result<Log, AllocError>
     requires place { place < places_of frames.now.pair }
-    ensures accepted { IfOk result (IsAccepted (step_formula frames.now.pair frames.now.k frames.now.classes place)) }
-    ensures trimmed { IfOk result (IsTrimmed (length (step_formula frames.now.pair frames.now.k frames.now.classes place).clauses)) }
+    ensures { IfOk result (IsStepLog frames.now place) }
 {
     let _places = frames.product.len();
     let (a, b) = frames.classes.needed(place);
     let k = frames.k;
     match frames.step.find_in(alloc, work, a, b, k, k)? {
-        Separation::None(log) => trim(alloc, frames.step_clauses, log),
+        Separation::None(log) => trim_step(alloc, frames, place, log),
         Separation::Path(_seen) => unreachable!(),
     }
 }
@@ -399,55 +411,42 @@ fn accepted_in(
 // The log of a question in frame t, by what lower places have derived there, where it is accepted.
 fn derived_log(
     alloc: Global,
-    lemmas: &mut Lemmas,
-    asked: &mut Unrolled<'_>,
+    deriver: &mut Deriver<'_>,
     frames: &Frames<'_>,
     t: u32,
     place: u32,
     question: (Lit, Lit),
 ) -> Result<Option<Log>, AllocError>
-    requires none { asked.old.asked ≡ None }
-    requires left { IsLiteral asked.old.pair question.0 }
-    requires right { IsLiteral asked.old.pair question.1 }
-    requires within { t < asked.old.frames }
-    ensures log { IfOk result (λ o. IfSome o (IsAccepted (formula_of (asking asked.old (asks question.0 question.1 t t))))) }
-    ensures asked { IfOk result (λ o. asked.new ≡ asked.old) }
+    requires none { deriver.old.frames.asked ≡ None }
+    requires left { IsLiteral deriver.old.frames.pair question.0 }
+    requires right { IsLiteral deriver.old.frames.pair question.1 }
+    requires within { t < deriver.old.frames.frames }
+    ensures log { IfOk result (λ o. IfSome o (IsAccepted (formula_of (asking deriver.old.frames (asks question.0 question.1 t t))))) }
+    ensures frames { IfOk result (λ o. deriver.new.frames ≡ deriver.old.frames) }
 {
     let (a, b) = question;
     let cells = frames.product.cells();
-    let log = lemmas.log_of(alloc, cells, frames.classes, place)?;
-    accepted_in(alloc, asked, a, b, t, log)
-}
-
-// A log from reset, trimmed.
-fn trim_reset(alloc: Global, frames: &Frames<'_>, place: u32, log: Log) -> Result<Log, AllocError>
-    requires place { place < places_of frames.now.pair }
-    requires log { IsAccepted (base_formula frames.now.pair frames.now.k frames.now.classes place) log }
-    ensures accepted { IfOk result (IsAccepted (base_formula frames.now.pair frames.now.k frames.now.classes place)) }
-    ensures trimmed { IfOk result (IsTrimmed (length (base_formula frames.now.pair frames.now.k frames.now.classes place).clauses)) }
-{
-    trim(alloc, frames.base_clauses, log)
+    let log = deriver.lemmas.log_of(alloc, cells, frames.classes, place)?;
+    accepted_in(alloc, &mut deriver.frames, a, b, t, log)
 }
 
 // The log from reset, trimmed, by what lower places have derived, where that is one frame and the log is accepted.
 fn derived_reset(
     alloc: Global,
-    first: &mut Lemmas,
-    resets: &mut Unrolled<'_>,
+    first: &mut Deriver<'_>,
     frames: &Frames<'_>,
     place: u32,
 ) -> Result<Option<Log>, AllocError>
-    requires resets { resets.old ≡ from_reset frames.now.pair 1 }
+    requires first { first.old.frames ≡ from_reset frames.now.pair 1 }
     requires place { place < places_of frames.now.pair }
-    ensures accepted { IfOk result (λ o. IfSome o (IsAccepted (base_formula frames.now.pair frames.now.k frames.now.classes place))) }
-    ensures trimmed { IfOk result (λ o. IfSome o (IsTrimmed (length (base_formula frames.now.pair frames.now.k frames.now.classes place).clauses))) }
-    ensures resets { IfOk result (λ o. resets.new ≡ resets.old) }
+    ensures log { IfOk result (λ o. IfSome o (IsBaseLog frames.now place)) }
+    ensures first { IfOk result (λ o. first.new.frames ≡ first.old.frames) }
 {
     let _places = frames.product.len();
     if frames.k == 1 {
         let pair = frames.classes.needed(place);
-        if let Some(log) = derived_log(alloc, first, resets, frames, 0, place, pair)? {
-            return Ok(Some(trim_reset(alloc, frames, place, log)?));
+        if let Some(log) = derived_log(alloc, first, frames, 0, place, pair)? {
+            return Ok(Some(trim_base(alloc, frames, place, log)?));
         }
     }
     Ok(None)
@@ -462,12 +461,10 @@ fn shorter_log(
     log: Log,
 ) -> Result<Log, AllocError>
     requires place { place < places_of frames.now.pair }
-    requires accepted { IsAccepted (base_formula frames.now.pair frames.now.k frames.now.classes place) log }
-    requires trimmed { IsTrimmed (length (base_formula frames.now.pair frames.now.k frames.now.classes place).clauses) log }
-    ensures accepted { IfOk result (IsAccepted (base_formula frames.now.pair frames.now.k frames.now.classes place)) }
-    ensures trimmed { IfOk result (IsTrimmed (length (base_formula frames.now.pair frames.now.k frames.now.classes place).clauses)) }
-    ensures asked { work.new.asked ≡ work.old.asked }
-    ensures resets { work.new.resets ≡ work.old.resets }
+    requires log { IsBaseLog frames.now place log }
+    ensures log { IfOk result (IsBaseLog frames.now place) }
+    ensures last { work.new.last.frames ≡ work.old.last.frames }
+    ensures first { work.new.first.frames ≡ work.old.first.frames }
 {
     let own = match base_log(alloc, &mut work.base, frames, place) {
         Ok(own) => own,
@@ -494,15 +491,13 @@ fn reset_log(
     frames: &Frames<'_>,
     place: u32,
 ) -> Result<Log, AllocError>
-    requires resets { work.old.resets ≡ from_reset frames.now.pair 1 }
+    requires first { work.old.first.frames ≡ from_reset frames.now.pair 1 }
     requires place { place < places_of frames.now.pair }
-    ensures accepted { IfOk result (IsAccepted (base_formula frames.now.pair frames.now.k frames.now.classes place)) }
-    ensures trimmed { IfOk result (IsTrimmed (length (base_formula frames.now.pair frames.now.k frames.now.classes place).clauses)) }
-    ensures asked { IfOk result (λ log. work.new.asked ≡ work.old.asked) }
-    ensures resets { IfOk result (λ log. work.new.resets ≡ work.old.resets) }
+    ensures log { IfOk result (IsBaseLog frames.now place) }
+    ensures last { IfOk result (λ log. work.new.last.frames ≡ work.old.last.frames) }
+    ensures first { IfOk result (λ log. work.new.first.frames ≡ work.old.first.frames) }
 {
-    let Solvers { first, resets, .. } = work;
-    match derived_reset(alloc, first, resets, frames, place)? {
+    match derived_reset(alloc, &mut work.first, frames, place)? {
         Some(log) => {
             if work.is_hard || log.len() <= SHORT {
                 return Ok(log);
@@ -520,19 +515,17 @@ fn last_log(
     frames: &Frames<'_>,
     place: u32,
 ) -> Result<Log, AllocError>
-    requires asked { work.old.asked ≡ after_classes frames.now.pair frames.now.k frames.now.classes }
+    requires last { work.old.last.frames ≡ after_classes frames.now.pair frames.now.k frames.now.classes }
     requires place { place < places_of frames.now.pair }
-    ensures accepted { IfOk result (IsAccepted (step_formula frames.now.pair frames.now.k frames.now.classes place)) }
-    ensures trimmed { IfOk result (IsTrimmed (length (step_formula frames.now.pair frames.now.k frames.now.classes place).clauses)) }
-    ensures asked { IfOk result (λ log. work.new.asked ≡ work.old.asked) }
-    ensures resets { IfOk result (λ log. work.new.resets ≡ work.old.resets) }
+    ensures log { IfOk result (IsStepLog frames.now place) }
+    ensures last { IfOk result (λ log. work.new.last.frames ≡ work.old.last.frames) }
+    ensures first { IfOk result (λ log. work.new.first.frames ≡ work.old.first.frames) }
 {
     let _places = frames.product.len();
     let pair = frames.classes.needed(place);
     let k = frames.k;
-    let Solvers { lemmas, asked, .. } = work;
-    match derived_log(alloc, lemmas, asked, frames, k, place, pair)? {
-        Some(log) => trim(alloc, frames.step_clauses, log),
+    match derived_log(alloc, &mut work.last, frames, k, place, pair)? {
+        Some(log) => trim_step(alloc, frames, place, log),
         None => step_log(alloc, &mut work.step, frames, place),
     }
 }
@@ -580,12 +573,12 @@ fn push_member(
     place: u32,
     text: &mut Vec<u8>,
 ) -> Result<(), AllocError>
-    requires asked { work.old.asked ≡ after_classes frames.now.pair frames.now.k frames.now.classes }
-    requires resets { work.old.resets ≡ from_reset frames.now.pair 1 }
+    requires last { work.old.last.frames ≡ after_classes frames.now.pair frames.now.k frames.now.classes }
+    requires first { work.old.first.frames ≡ from_reset frames.now.pair 1 }
     requires place { place < places_of frames.now.pair }
     ensures added { OnOk result (AddsMember frames.now.pair frames.now.k frames.now.classes place text.old.items text.new.items) }
-    ensures asked { OnOk result (work.new.asked ≡ work.old.asked) }
-    ensures resets { OnOk result (work.new.resets ≡ work.old.resets) }
+    ensures last { OnOk result (work.new.last.frames ≡ work.old.last.frames) }
+    ensures first { OnOk result (work.new.first.frames ≡ work.old.first.frames) }
 {
     let base = reset_log(alloc, work, frames, place)?;
     push_log(b"base ", frames, place, base, text)?;
@@ -600,8 +593,8 @@ fn push_members(
     frames: &Frames<'_>,
     text: &mut Vec<u8>,
 ) -> Result<(), AllocError>
-    requires asked { work.old.asked ≡ after_classes frames.now.pair frames.now.k frames.now.classes }
-    requires resets { work.old.resets ≡ from_reset frames.now.pair 1 }
+    requires last { work.old.last.frames ≡ after_classes frames.now.pair frames.now.k frames.now.classes }
+    requires first { work.old.first.frames ≡ from_reset frames.now.pair 1 }
     ensures { OnOk result (AddsMembers frames.now.pair frames.now.k frames.now.classes text.old.items text.new.items) }
 {
     for place in 0..frames.product.len() {

@@ -1,5 +1,5 @@
 -- The marked lines of an accepted log are accepted, and each but the last is hinted by a later one.
-use Rattle.std.proofs.Common.{Result, Ok, Err, IfOk, ◌≡◌, ◌∙◌, ◌≤◌, ◌<◌, ◌+◌, ◌-◌, ℕ, zero, suc, ℤ, Bool, true, false, List, [], ◌∷◌, ◌++◌, length, get_or, map, take, leb, refl, sym, ap, subst, arith, length-append, append_assoc, inl, inr, ⊎_elim}
+use Rattle.std.proofs.Common.{◌≡◌, ◌∙◌, ◌≤◌, ◌<◌, ◌+◌, ◌-◌, ℕ, zero, suc, ℤ, Bool, true, false, List, [], ◌∷◌, ◌++◌, length, get_or, map, take, leb, refl, sym, ap, subst, arith, length-append, append_assoc, inl, inr, ⊎_elim}
 use Rattle.std.specs.List.{All, Contains}
 use Rattle.std.proofs.lemmas.Bool.{cases_Bool, cases_lt, le-leb}
 use Rattle.std.proofs.lemmas.List.{append-nil, map-append, map_more, get_or-take, get_or-map, get_or_append_left, get_or-append_right, length-take-le, take_all}
@@ -180,12 +180,3 @@ sub_to given lines marks (suc i) le =
 pub kept_clauses : (given : ℕ) (lines : List Line) (marks : List Bool) → IsSubsequence (clauses_of (kept_to given lines marks (length lines))) (clauses_of lines)
 kept_clauses given lines marks =
     subst (λ (ls : List Line). IsSubsequence (clauses_of (kept_to given lines marks (length lines))) (clauses_of ls)) (take_all (length lines) lines (omega arith)) (sub_to given lines marks (length lines) (omega arith))
-
--- what a trimmed log is over a formula with so many clauses
-pub trimmed_accepted : {E : Type 0} (formula : Formula) (given : ℕ) (lines : List Line) (r : Result (List Line) E) → given ≡ length formula.clauses → IsAccepted formula lines
-    → IfOk r (λ kept. (f : Formula) → length f.clauses ≡ given → IsAccepted f lines → IsAccepted f kept) → IfOk r (IsAccepted formula)
-trimmed_accepted formula given lines (Ok kept) e is h = h formula (sym e) is
-trimmed_accepted formula given lines (Err x) e is h = h
-
-pub trimmed_over : {E : Type 0} (formula : Formula) (given : ℕ) (r : Result (List Line) E) → given ≡ length formula.clauses → IfOk r (IsTrimmed given) → IfOk r (IsTrimmed (length formula.clauses))
-trimmed_over formula given r e h = subst (λ (n : ℕ). IfOk r (IsTrimmed n)) e h

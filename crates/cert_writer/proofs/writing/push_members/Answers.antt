@@ -22,8 +22,8 @@ loop-place-preserved c =
           record {
             text = subst (λ (v : _). SoFar pair c.args.frames.now.k classes (place + 1) c.args.text.now.items v.items) (sym w.text-is)
                 (member_added pair c.args.frames.now.k classes place c.args.text.now.items c.loop-place.text.items w.push_member.new.text.items lt apart c.loop-place.invariant.text w.in_ok-push_member.ensures.added);
-            asked = subst (λ (v : _). v.asked ≡ after_classes pair c.args.frames.now.k classes) (sym w.work-is) (w.in_ok-push_member.ensures.asked ∙ c.loop-place.invariant.asked);
-            resets = subst (λ (v : _). v.resets ≡ from_reset pair 1) (sym w.work-is) (w.in_ok-push_member.ensures.resets ∙ c.loop-place.invariant.resets);
+            last = subst (λ (v : _). v.last.frames ≡ after_classes pair c.args.frames.now.k classes) (sym w.work-is) (w.in_ok-push_member.ensures.last ∙ c.loop-place.invariant.last);
+            first = subst (λ (v : _). v.first.frames ≡ from_reset pair 1) (sym w.work-is) (w.in_ok-push_member.ensures.first ∙ c.loop-place.invariant.first);
           }
       | else-rep-place w ↦
           let t = w.if-rep-place.false in
@@ -31,8 +31,8 @@ loop-place-preserved c =
           record {
             text = subst (λ (v : _). SoFar pair c.args.frames.now.k classes (place + 1) c.args.text.now.items v.items) (sym w.text-is)
                 (least_passed pair c.args.frames.now.k classes place c.args.text.now.items c.loop-place.text.items lt least c.loop-place.invariant.text);
-            asked = subst (λ (v : _). v.asked ≡ after_classes pair c.args.frames.now.k classes) (sym w.work-is) c.loop-place.invariant.asked;
-            resets = subst (λ (v : _). v.resets ≡ from_reset pair 1) (sym w.work-is) c.loop-place.invariant.resets;
+            last = subst (λ (v : _). v.last.frames ≡ after_classes pair c.args.frames.now.k classes) (sym w.work-is) c.loop-place.invariant.last;
+            first = subst (λ (v : _). v.first.frames ≡ from_reset pair 1) (sym w.work-is) c.loop-place.invariant.first;
           }
     ]
 

@@ -6,6 +6,6 @@ use Rattle.cert_writer.proofs.writing.push_members.Given as goal
 abbrev pub invariant-loop-place : goal.invariant-loop-place
 invariant-loop-place l = record {
   text : SoFar l.frames.pair l.frames.k l.frames.classes l.place l.initial.text.items l.text.items;
-  asked : l.work.asked ≡ after_classes l.frames.pair l.frames.k l.frames.classes;
-  resets : l.work.resets ≡ from_reset l.frames.pair 1;
+  last : l.work.last.frames ≡ after_classes l.frames.pair l.frames.k l.frames.classes;
+  first : l.work.first.frames ≡ from_reset l.frames.pair 1;
 }

@@ -1,0 +1,13 @@
+use Rattle.std.proofs.Common.{◌≡◌, ℕ, length, subst}
+use Rattle.corr_certificate.specs.Parts.{step_formula}
+use Rattle.cert_writer.specs.Writing.{Certified}
+use Rattle.cert_writer.proofs.Counting.{trimmed_over}
+use Rattle.cert_writer.proofs.writing.trim_step.Goals as goal
+
+pub returns : goal.returns
+returns c =
+    let f = c.frames.inside in
+    let s = c.args.frames.now in
+    let place : ℕ = c.args.place in
+    let count = subst (λ (t : Certified). f.step_clauses ≡ length (step_formula t.pair t.k t.classes place).clauses) c.frames.view_is (c.frames.invariant.step_count place) in
+    trimmed_over (step_formula s.pair s.k s.classes place) f.step_clauses c.args.log c.trim.result count c.requires c.trim.ensures.accepted c.trim.ensures.trimmed
