@@ -25,38 +25,36 @@ fn bad_line(alloc: Global, bytes: &[u8]) -> u64 {
 
 #[test]
 fn logs_are_read_and_written(rt: HostRuntime) -> Result<(), Fail> {
-    let alloc = rt.alloc();
-    let texts = [
-        b"".as_slice(),
-        b"0 6 2 0\n".as_slice(),
-        b"0 0\n".as_slice(),
-        b"-2 0 3 8 5 11 9 0\n0 12 4 7 6 11 10 0\n".as_slice(),
-        b"2147483647 -2147483647 0 18446744073709551615 0\n".as_slice(),
+    const LOGS: &[&[u8]] = &[
+        b"",
+        b"0 6 2 0\n",
+        b"0 0\n",
+        b"-2 0 3 8 5 11 9 0\n0 12 4 7 6 11 10 0\n",
+        b"2147483647 -2147483647 0 18446744073709551615 0\n",
     ];
-    for text in texts {
-        assert!(rt; is_written_again(alloc, text));
+    for &log in LOGS {
+        assert!(rt; is_written_again(rt.alloc(), log));
     }
     Ok(())
 }
 
 #[test]
 fn the_first_line_that_is_none_is_refused(rt: HostRuntime) -> Result<(), Fail> {
-    let alloc = rt.alloc();
-    let texts = [
-        (b"0 6 2 0".as_slice(), 1),
-        (b"0 6 2 0\n\n".as_slice(), 2),
-        (b"0 6 2 0\n0 06 2 0\n".as_slice(), 2),
-        (b"0 6 2 0\n0 6 2 0\n0\n".as_slice(), 3),
-        (b"-0 0 1 0\n".as_slice(), 1),
-        (b"+1 0 1 0\n".as_slice(), 1),
-        (b"1  0 1 0\n".as_slice(), 1),
-        (b"1 0 1 0 \n".as_slice(), 1),
-        (b"1 0 -1 0\n".as_slice(), 1),
-        (b"2147483648 0 1 0\n".as_slice(), 1),
-        (b"0 18446744073709551616 0\n".as_slice(), 1),
+    const TEXTS: &[(&[u8], u64)] = &[
+        (b"0 6 2 0", 1),
+        (b"0 6 2 0\n\n", 2),
+        (b"0 6 2 0\n0 06 2 0\n", 2),
+        (b"0 6 2 0\n0 6 2 0\n0\n", 3),
+        (b"-0 0 1 0\n", 1),
+        (b"+1 0 1 0\n", 1),
+        (b"1  0 1 0\n", 1),
+        (b"1 0 1 0 \n", 1),
+        (b"1 0 -1 0\n", 1),
+        (b"2147483648 0 1 0\n", 1),
+        (b"0 18446744073709551616 0\n", 1),
     ];
-    for (text, line) in texts {
-        assert!(rt; bad_line(alloc, text) == line);
+    for &(text, line) in TEXTS {
+        assert!(rt; bad_line(rt.alloc(), text) == line);
     }
     Ok(())
 }

@@ -109,63 +109,60 @@ fn writes(alloc: Global, text: &[u8], with_log: bool, answer: &[u8]) -> bool {
 
 #[test]
 fn formulas_with_known_answers(rt: HostRuntime) -> Result<(), Fail> {
-    let alloc = rt.alloc();
-    let texts = [
+    const FORMULAS: &[(&[u8], bool)] = &[
         // no clause, and no variable
-        (b"p cnf 0 0\n".as_slice(), true),
-        (b"p cnf 3 0\n".as_slice(), true),
+        (b"p cnf 0 0\n", true),
+        (b"p cnf 3 0\n", true),
         // the empty clause
-        (b"p cnf 0 1\n0\n".as_slice(), false),
-        (b"p cnf 2 2\n1 2 0\n0\n".as_slice(), false),
+        (b"p cnf 0 1\n0\n", false),
+        (b"p cnf 2 2\n1 2 0\n0\n", false),
         // opposite units, and a clause of two
-        (b"p cnf 1 2\n1 0\n-1 0\n".as_slice(), false),
-        (b"p cnf 2 1\n1 2 0\n".as_slice(), true),
+        (b"p cnf 1 2\n1 0\n-1 0\n", false),
+        (b"p cnf 2 1\n1 2 0\n", true),
         // a chain of units, open at its end and closed
-        (b"p cnf 4 4\n1 0\n-1 2 0\n-2 3 0\n-3 4 0\n".as_slice(), true),
-        (
-            b"p cnf 4 5\n1 0\n-1 2 0\n-2 3 0\n-3 4 0\n-4 0\n".as_slice(),
-            false,
-        ),
+        (b"p cnf 4 4\n1 0\n-1 2 0\n-2 3 0\n-3 4 0\n", true),
+        (b"p cnf 4 5\n1 0\n-1 2 0\n-2 3 0\n-3 4 0\n-4 0\n", false),
         // a literal twice, a literal with its complement, a clause twice
-        (b"p cnf 2 3\n1 1 0\n-2 -2 0\n-1 2 2 0\n".as_slice(), false),
-        (b"p cnf 2 3\n1 -1 0\n2 -2 1 0\n-1 0\n".as_slice(), true),
+        (b"p cnf 2 3\n1 1 0\n-2 -2 0\n-1 2 2 0\n", false),
+        (b"p cnf 2 3\n1 -1 0\n2 -2 1 0\n-1 0\n", true),
         (
-            b"p cnf 2 6\n1 2 0\n1 2 0\n-1 2 0\n1 -2 0\n-1 -2 0\n-2 -1 0\n".as_slice(),
+            b"p cnf 2 6\n1 2 0\n1 2 0\n-1 2 0\n1 -2 0\n-1 -2 0\n-2 -1 0\n",
             false,
         ),
         // the sum of three variables by twos is odd thrice, and even once
         (
-            b"p cnf 3 6\n1 2 0\n-1 -2 0\n2 3 0\n-2 -3 0\n1 3 0\n-1 -3 0\n".as_slice(),
+            b"p cnf 3 6\n1 2 0\n-1 -2 0\n2 3 0\n-2 -3 0\n1 3 0\n-1 -3 0\n",
             false,
         ),
         (
-            b"p cnf 3 6\n1 2 0\n-1 -2 0\n2 3 0\n-2 -3 0\n1 -3 0\n-1 3 0\n".as_slice(),
+            b"p cnf 3 6\n1 2 0\n-1 -2 0\n2 3 0\n-2 -3 0\n1 -3 0\n-1 3 0\n",
             true,
         ),
         // chains of sums: an odd sum of three, and one that is odd and even
         (
-            b"p cnf 5 9\n-4 1 2 0\n-4 -1 -2 0\n4 -1 2 0\n4 1 -2 0\n-5 4 3 0\n-5 -4 -3 0\n5 -4 3 0\n5 4 -3 0\n5 0\n".as_slice(),
+            b"p cnf 5 9\n-4 1 2 0\n-4 -1 -2 0\n4 -1 2 0\n4 1 -2 0\n-5 4 3 0\n-5 -4 -3 0\n5 -4 3 0\n5 4 -3 0\n5 0\n",
             true,
         ),
         (
-            b"p cnf 4 8\n1 2 -4 0\n1 -2 4 0\n-1 2 4 0\n-1 -2 -4 0\n1 2 4 0\n1 -2 -4 0\n-1 2 -4 0\n-1 -2 4 0\n".as_slice(),
+            b"p cnf 4 8\n1 2 -4 0\n1 -2 4 0\n-1 2 4 0\n-1 -2 -4 0\n1 2 4 0\n1 -2 -4 0\n-1 2 -4 0\n-1 -2 4 0\n",
             false,
         ),
         // three pigeons in two holes
         (
-            b"p cnf 6 9\n1 2 0\n3 4 0\n5 6 0\n-1 -3 0\n-1 -5 0\n-3 -5 0\n-2 -4 0\n-2 -6 0\n-4 -6 0\n".as_slice(),
+            b"p cnf 6 9\n1 2 0\n3 4 0\n5 6 0\n-1 -3 0\n-1 -5 0\n-3 -5 0\n-2 -4 0\n-2 -6 0\n-4 -6 0\n",
             false,
         ),
     ];
-    for (text, satisfiable) in texts {
-        assert!(rt; is_answered(alloc, text, satisfiable));
+    for &(text, satisfiable) in FORMULAS {
+        assert!(rt; is_answered(rt.alloc(), text, satisfiable));
     }
     Ok(())
 }
 
 #[test]
 fn one_pigeon_too_many_for_three_to_six_holes(rt: HostRuntime) -> Result<(), Fail> {
-    for (holes, clauses) in [(3, 22), (4, 45), (5, 81), (6, 133)] {
+    const HOLES_AND_CLAUSES: &[(u32, u64)] = &[(3, 22), (4, 45), (5, 81), (6, 133)];
+    for &(holes, clauses) in HOLES_AND_CLAUSES {
         let formula = pigeonhole(rt.alloc(), holes)?;
         assert!(rt; formula.len() == clauses && is_decided(rt.alloc(), &formula, false));
     }
@@ -174,52 +171,47 @@ fn one_pigeon_too_many_for_three_to_six_holes(rt: HostRuntime) -> Result<(), Fai
 
 #[test]
 fn faults_stand_at_their_words(rt: HostRuntime) -> Result<(), Fail> {
-    let alloc = rt.alloc();
-    let texts = [
-        (b"".as_slice(), DimacsKind::Header, 0),
-        (b"c no more\n\n".as_slice(), DimacsKind::Header, 11),
-        (b"p cnf 1 1".as_slice(), DimacsKind::Header, 0),
-        (b"c\np dnf 1 1\n1 0\n".as_slice(), DimacsKind::Header, 2),
-        (b"p cnf 2147483648 0\n".as_slice(), DimacsKind::Header, 0),
-        (b"p cnf 1 1 1\n1 0\n".as_slice(), DimacsKind::Header, 0),
-        (b"p cnf 2 1\n1 3 0\n".as_slice(), DimacsKind::Number, 12),
-        (b"p cnf 2 1\n1 -0 0\n".as_slice(), DimacsKind::Number, 12),
-        (b"p cnf 2 1\n1 02 0\n".as_slice(), DimacsKind::Number, 12),
-        (b"p cnf 2 1\n1 %\n0\n".as_slice(), DimacsKind::Character, 12),
-        (b"p cnf 2 1\n1\t0\n".as_slice(), DimacsKind::Character, 10),
-        (b"p cnf 2 1\n1 c 0\n".as_slice(), DimacsKind::Character, 12),
-        (b"p cnf 2 1\n1 2\n".as_slice(), DimacsKind::Open, 14),
-        (b"p cnf 2 2\n1 2 0\n".as_slice(), DimacsKind::Count, 16),
-        (b"p cnf 2 1\n1 0 2 0".as_slice(), DimacsKind::Count, 17),
+    const TEXTS: &[(&[u8], DimacsKind, u64)] = &[
+        (b"", DimacsKind::Header, 0),
+        (b"c no more\n\n", DimacsKind::Header, 11),
+        (b"p cnf 1 1", DimacsKind::Header, 0),
+        (b"c\np dnf 1 1\n1 0\n", DimacsKind::Header, 2),
+        (b"p cnf 2147483648 0\n", DimacsKind::Header, 0),
+        (b"p cnf 1 1 1\n1 0\n", DimacsKind::Header, 0),
+        (b"p cnf 2 1\n1 3 0\n", DimacsKind::Number, 12),
+        (b"p cnf 2 1\n1 -0 0\n", DimacsKind::Number, 12),
+        (b"p cnf 2 1\n1 02 0\n", DimacsKind::Number, 12),
+        (b"p cnf 2 1\n1 %\n0\n", DimacsKind::Character, 12),
+        (b"p cnf 2 1\n1\t0\n", DimacsKind::Character, 10),
+        (b"p cnf 2 1\n1 c 0\n", DimacsKind::Character, 12),
+        (b"p cnf 2 1\n1 2\n", DimacsKind::Open, 14),
+        (b"p cnf 2 2\n1 2 0\n", DimacsKind::Count, 16),
+        (b"p cnf 2 1\n1 0 2 0", DimacsKind::Count, 17),
     ];
-    for (text, kind, at) in texts {
-        assert!(rt; fault_of(alloc, text) == Some(DimacsFault { kind, at }));
+    for &(text, kind, at) in TEXTS {
+        assert!(rt; fault_of(rt.alloc(), text) == Some(DimacsFault { kind, at }));
     }
     Ok(())
 }
 
 #[test]
 fn answers_are_written(rt: HostRuntime) -> Result<(), Fail> {
-    let alloc = rt.alloc();
-    let texts = [
+    // a text, whether the log is asked for, and what is written
+    const ANSWERS: &[(&[u8], bool, &[u8])] = &[
         (
-            b"p  cnf 2 2 \nc one way\n 1  0\n\n-2 0\n".as_slice(),
+            b"p  cnf 2 2 \nc one way\n 1  0\n\n-2 0\n",
             false,
-            b"s SATISFIABLE\nv 1\nv -2\nv 0\n".as_slice(),
+            b"s SATISFIABLE\nv 1\nv -2\nv 0\n",
         ),
+        (b"p cnf 1 2\n1 0 -1 0", false, b"s UNSATISFIABLE\n"),
         (
-            b"p cnf 1 2\n1 0 -1 0".as_slice(),
-            false,
-            b"s UNSATISFIABLE\n".as_slice(),
-        ),
-        (
-            b"p cnf 1 2\n1 0 -1 0".as_slice(),
+            b"p cnf 1 2\n1 0 -1 0",
             true,
-            b"s UNSATISFIABLE\n3 0 1 2 0\n".as_slice(),
+            b"s UNSATISFIABLE\n3 0 1 2 0\n",
         ),
     ];
-    for (text, with_log, answer) in texts {
-        assert!(rt; writes(alloc, text, with_log, answer));
+    for &(text, with_log, answer) in ANSWERS {
+        assert!(rt; writes(rt.alloc(), text, with_log, answer));
     }
     Ok(())
 }

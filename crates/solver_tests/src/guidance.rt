@@ -33,19 +33,23 @@ fn leads_to(
 
 #[test]
 fn a_clause_is_due_when_one_literal_is_left(rt: HostRuntime) -> Result<(), Fail> {
+    const LOW: Value = Value::False;
+    const HIGH: Value = Value::True;
+    const FREE: Value = Value::Free;
+    const ONE_LEFT: &[Value] = &[LOW, HIGH, LOW, HIGH, FREE, FREE];
+    // the literal that falls, the values, and the clause that is due
+    const FALLS: &[(u32, &[Value], Option<usize>)] = &[
+        (0, &[LOW, HIGH, FREE, FREE, FREE, FREE], None),
+        (2, ONE_LEFT, Some(0)),
+        (2, &[LOW, HIGH, LOW, HIGH, HIGH, LOW], None),
+    ];
     let mut watches = Watches::new(rt.alloc(), 3)?;
     watch_one(rt.alloc(), &mut watches)?;
-    let (low, high, free) = (Value::False, Value::True, Value::Free);
-    for (fallen, values, due) in [
-        (0, [low, high, free, free, free, free], None),
-        (2, [low, high, low, high, free, free], Some(0)),
-        (2, [low, high, low, high, high, low], None),
-    ] {
-        assert!(rt; leads_to(rt.alloc(), &mut watches, fallen, &values, due));
+    for &(fallen, values, due) in FALLS {
+        assert!(rt; leads_to(rt.alloc(), &mut watches, fallen, values, due));
     }
     watches.clear(1);
-    let values = [low, high, low, high, free, free];
-    assert!(rt; leads_to(rt.alloc(), &mut watches, 2, &values, None));
+    assert!(rt; leads_to(rt.alloc(), &mut watches, 2, ONE_LEFT, None));
     Ok(())
 }
 
@@ -78,13 +82,14 @@ fn is_due_after(few: u32, many: u32) -> bool {
 
 #[test]
 fn a_restart_comes_where_clauses_spread_further_than_before(rt: HostRuntime) -> Result<(), Fail> {
-    for (few, many, due) in [
+    const RUNS: &[(u32, u32, bool)] = &[
         (0, 0, false),
         (100, 0, false),
         (0, 100, false),
         (100, 3, true),
         (5, 2, false),
-    ] {
+    ];
+    for &(few, many, due) in RUNS {
         assert!(rt; is_due_after(few, many) == due);
     }
     Ok(())
@@ -118,16 +123,17 @@ fn the_less_used_half_is_forgotten_but_for_what_spreads_little(
 #[test]
 fn a_clause_spreads_over_the_levels_of_its_literals(rt: HostRuntime) -> Result<(), Fail> {
     // variables 0 to 7 stand on the trail in their order, in levels that begin at 1, 3 and 6
-    let starts = [1, 3, 6];
-    let at = [1, 2, 3, 4, 5, 6, 7, 8];
-    for (learned, spread) in [
-        (&[14][..], 1),
-        (&[6, 14][..], 2),
-        (&[10, 8, 15][..], 2),
-        (&[11, 6, 4, 2, 12][..], 3),
-        (&[8, 4, 0, 12][..], 4),
-    ] {
-        assert!(rt; spread_of(&starts, &at, learned) == spread);
+    const STARTS: &[usize] = &[1, 3, 6];
+    const AT: &[usize] = &[1, 2, 3, 4, 5, 6, 7, 8];
+    const LEARNED: &[(&[u32], u32)] = &[
+        (&[14], 1),
+        (&[6, 14], 2),
+        (&[10, 8, 15], 2),
+        (&[11, 6, 4, 2, 12], 3),
+        (&[8, 4, 0, 12], 4),
+    ];
+    for &(learned, spread) in LEARNED {
+        assert!(rt; spread_of(STARTS, AT, learned) == spread);
     }
     Ok(())
 }

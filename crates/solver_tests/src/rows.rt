@@ -33,8 +33,9 @@ fn has_alone(row: &BitRow, at: u32) -> bool {
 
 #[test]
 fn rows_keep_what_was_written(rt: HostRuntime) -> Result<(), Fail> {
+    const PLACES: &[u32] = &[0, 63, 64, 127];
     let mut rows = Rows::new(rt.alloc());
-    for at in [0u32, 63, 64, 127] {
+    for &at in PLACES {
         let row = row_with(rt.alloc(), at)?;
         rows.push(copy_of(rt.alloc(), &row)?)?;
         assert!(rt; has_alone(rows.row(rows.len() - 1), at));

@@ -29,12 +29,12 @@ fn are_answered(alloc: Global, shared: &[u8], own: &[u8], satisfiable: bool) -> 
 
 #[test]
 fn two_formulas_are_satisfied_together_or_apart_alone(rt: HostRuntime) -> Result<(), Fail> {
-    let shared = b"p cnf 1 1\n1 0\n".as_slice();
-    let looser = b"p cnf 2 1\n-1 2 0\n".as_slice();
-    let own = b"p cnf 2 2\n-1 2 0\n-2 0\n".as_slice();
-    assert!(rt; are_answered(rt.alloc(), shared, looser, true));
-    assert!(rt; is_answered(rt.alloc(), shared, true) && is_answered(rt.alloc(), own, true));
-    assert!(rt; are_answered(rt.alloc(), shared, own, false));
+    const SHARED: &[u8] = b"p cnf 1 1\n1 0\n";
+    const LOOSER: &[u8] = b"p cnf 2 1\n-1 2 0\n";
+    const OWN: &[u8] = b"p cnf 2 2\n-1 2 0\n-2 0\n";
+    assert!(rt; are_answered(rt.alloc(), SHARED, LOOSER, true));
+    assert!(rt; is_answered(rt.alloc(), SHARED, true) && is_answered(rt.alloc(), OWN, true));
+    assert!(rt; are_answered(rt.alloc(), SHARED, OWN, false));
     Ok(())
 }
 
@@ -80,23 +80,23 @@ fn are_answered_in(
 
 #[test]
 fn questions_in_one_workspace_are_answered_each_for_itself(rt: HostRuntime) -> Result<(), Fail> {
+    const CHAIN: &[u8] = b"p cnf 3 2\n-1 2 0\n-2 3 0\n";
+    const UNLIKE: &[u8] = b"p cnf 2 2\n1 2 0\n-1 -2 0\n";
+    const FIRST: &[(&[u8], bool)] = &[
+        (b"p cnf 3 1\n1 0\n", true),
+        (b"p cnf 3 2\n1 0\n-3 0\n", false),
+        (b"p cnf 4 2\n1 4 0\n-3 0\n", true),
+        (b"p cnf 4 3\n1 4 0\n-3 0\n-4 0\n", false),
+    ];
+    const SECOND: &[(&[u8], bool)] = &[
+        (b"p cnf 2 1\n1 -2 0\n", true),
+        (b"p cnf 2 2\n1 -2 0\n-1 2 0\n", false),
+    ];
+    const AGAIN: &[(&[u8], bool)] = &[(b"p cnf 3 2\n1 0\n-3 0\n", false)];
     let alloc = rt.alloc();
     let mut work = Workspace::new();
-    let chain = b"p cnf 3 2\n-1 2 0\n-2 3 0\n".as_slice();
-    let unlike = b"p cnf 2 2\n1 2 0\n-1 -2 0\n".as_slice();
-    let first = [
-        (b"p cnf 3 1\n1 0\n".as_slice(), true),
-        (b"p cnf 3 2\n1 0\n-3 0\n".as_slice(), false),
-        (b"p cnf 4 2\n1 4 0\n-3 0\n".as_slice(), true),
-        (b"p cnf 4 3\n1 4 0\n-3 0\n-4 0\n".as_slice(), false),
-    ];
-    let second = [
-        (b"p cnf 2 1\n1 -2 0\n".as_slice(), true),
-        (b"p cnf 2 2\n1 -2 0\n-1 2 0\n".as_slice(), false),
-    ];
-    let again = [(b"p cnf 3 2\n1 0\n-3 0\n".as_slice(), false)];
-    assert!(rt; are_answered_in(alloc, &mut work, chain, &first));
-    assert!(rt; are_answered_in(alloc, &mut work, unlike, &second));
-    assert!(rt; are_answered_in(alloc, &mut work, chain, &again));
+    assert!(rt; are_answered_in(alloc, &mut work, CHAIN, FIRST));
+    assert!(rt; are_answered_in(alloc, &mut work, UNLIKE, SECOND));
+    assert!(rt; are_answered_in(alloc, &mut work, CHAIN, AGAIN));
     Ok(())
 }
