@@ -160,13 +160,15 @@ fn two_turns<'v, 'p, L: Run>(
 ) -> Result<[usize; 3], AllocError>
     requires workers { 2 ≤ L.workers }
 {
+    const BOTH_ASK: &[Turn] = &[Turn::First, Turn::Second];
+    const BOTH_ANSWER: &[Turn] = &[Turn::Answer, Turn::Answer, Turn::First];
+    const SECOND_ASKS: &[Turn] = &[Turn::Second, Turn::Answer, Turn::Second];
     let mut works = Vec::new(alloc);
-    let (first, second, answer) = (Turn::First, Turn::Second, Turn::Answer);
-    take_turns(rt, alloc, board, &mut works, &[first, second])?;
+    take_turns(rt, alloc, board, &mut works, BOTH_ASK)?;
     let both = [index_of(&works, 0), index_of(&works, 1)];
-    take_turns(rt, alloc, board, &mut works, &[answer, answer, first])?;
+    take_turns(rt, alloc, board, &mut works, BOTH_ANSWER)?;
     let next = index_of(&works, 0);
-    take_turns(rt, alloc, board, &mut works, &[second, answer, second])?;
+    take_turns(rt, alloc, board, &mut works, SECOND_ASKS)?;
     Ok([both[0], both[1], next])
 }
 
@@ -215,8 +217,11 @@ fn is_entry(
         && numbers_of(&entry.step) == numbers
 }
 
-// Whether the journal begins with these entries: the worker, the number of its call, the step, and its numbers.
-pub(crate) fn begins_so(journal: &Journal, entries: &[(u32, u64, &str, [u32; 2])]) -> bool {
+// An entry of a journal: the worker, the number of its call, the step, and its numbers.
+pub(crate) type EntryRow = (u32, u64, &'static str, [u32; 2]);
+
+// Whether the journal begins with these entries.
+pub(crate) fn begins_so(journal: &Journal, entries: &[EntryRow]) -> bool {
     let mut i: u64 = 0;
     for entry in entries {
         if !is_entry(journal, i, entry.0, entry.1, entry.2, entry.3) {
@@ -345,8 +350,7 @@ fn toggles_are_counted(
     alloc: Global,
     product: &Product,
 ) -> Result<bool, AllocError> {
-    let end = worked(rt, alloc, product)?;
-    let entries = [
+    const ENTRIES: &[EntryRow] = &[
         (0, 0, "offered", [0, 1]),
         (1, 0, "offered", [0, 2]),
         (0, 1, "split", [0, 1]),
@@ -356,9 +360,10 @@ fn toggles_are_counted(
         (0, 3, "counted", [1, 2]),
         (1, 3, "done", [0, 0]),
     ];
+    let end = worked(rt, alloc, product)?;
     let so = end.version.classes().count() == 2
         && end.journal.len() == 8
-        && begins_so(&end.journal, entries.as_slice());
+        && begins_so(&end.journal, ENTRIES);
     Ok(is_as_replayed(alloc, product, &end)? && so)
 }
 
@@ -374,17 +379,17 @@ fn two_workers_split_and_count_a_pair_of_toggles(rt: HostRuntime) -> Result<(), 
 
 // Whether the second worker's proof is outdated, and its pair splits under the next version.
 fn proof_is_outdated(rt: &impl Wait, alloc: Global, product: &Product) -> Result<bool, AllocError> {
-    let end = worked(rt, alloc, product)?;
-    let entries = [
+    const ENTRIES: &[EntryRow] = &[
         (0, 0, "offered", [0, 1]),
         (1, 0, "offered", [0, 2]),
         (0, 1, "split", [0, 1]),
         (1, 1, "stale", [0, 2]),
         (0, 2, "offered", [0, 2]),
     ];
+    let end = worked(rt, alloc, product)?;
     let journal = &end.journal;
     Ok(
-        begins_so(journal, entries.as_slice())
+        begins_so(journal, ENTRIES)
             && journal.len() > 6
             && word_of(&journal.entry(6).step) == "split",
     )
@@ -515,13 +520,14 @@ fn end_at_greatest(rt: &impl Wait, alloc: Global, product: &Product) -> Result<b
 
 #[test]
 fn every_drawn_schedule_ends_at_the_greatest_classes(rt: HostRuntime) -> Result<(), Fail> {
-    let alloc = rt.alloc();
-    for (left, right) in [
+    const PAIRS: &[(&str, &str)] = &[
         (TOGGLE, TOGGLE),
         (DELAY, LATE_DELAY),
         (DELAY, DELAY),
         (NOTHING, NOTHING),
-    ] {
+    ];
+    let alloc = rt.alloc();
+    for &(left, right) in PAIRS {
         match pair_of(alloc, left, right) {
             Ok(product) => assert!(rt; end_at_greatest(&rt, alloc, &product)?),
             Err(_) => assert!(rt; false),

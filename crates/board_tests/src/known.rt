@@ -1,7 +1,7 @@
 //! What is known from induction over fewer frames: its pairs stay counted while the classes split.
 ghost use Rattle.std.specs.Prelude.{◌≤◌, ◌+◌, ◌<◌};
 
-use crate::boards::{Players, Work, answer, ask, begins_so, played};
+use crate::boards::{EntryRow, Players, Work, answer, ask, begins_so, played};
 use crate::circuits::{STUCK, pair_of};
 use product_machine::Product;
 use refine_board::{Board, Run};
@@ -59,11 +59,7 @@ pub(crate) fn known_turns<'v, 'p, L: Run>(
 // Whether the pair of the constant and the left latch, which is known from one frame, stays counted on a board for two frames
 // when the input is split off.
 fn stays_counted(rt: &impl Wait, alloc: Global, product: &Product) -> Result<bool, AllocError> {
-    let greatest = greatest_classes(alloc, product, 1)?;
-    let known = Known::of(alloc, greatest.product(), greatest.k(), greatest.classes())?;
-    let end = played(rt, alloc, product, 2, Players::ByKnown(&known))?;
-    let journal = &end.journal;
-    let entries = [
+    const ENTRIES: &[EntryRow] = &[
         (0, 0, "offered", [0, 1]),
         (1, 0, "offered", [0, 2]),
         (1, 1, "counted", [0, 2]),
@@ -72,7 +68,10 @@ fn stays_counted(rt: &impl Wait, alloc: Global, product: &Product) -> Result<boo
         (0, 3, "counted", [0, 3]),
         (1, 2, "done", [0, 0]),
     ];
-    Ok(journal.len() == 7 && begins_so(journal, entries.as_slice()))
+    let greatest = greatest_classes(alloc, product, 1)?;
+    let known = Known::of(alloc, greatest.product(), greatest.k(), greatest.classes())?;
+    let end = played(rt, alloc, product, 2, Players::ByKnown(&known))?;
+    Ok(end.journal.len() == 7 && begins_so(&end.journal, ENTRIES))
 }
 
 #[test]

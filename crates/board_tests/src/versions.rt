@@ -64,32 +64,28 @@ fn are_greatest(
     }
 }
 
-// A row of a table of classes.
-fn row_of(splits: u32, count: u32, least: [u32; 8]) -> Due {
-    Due {
-        splits,
-        count,
-        least,
-    }
-}
+// The least places of the product of latches and the latch of a product: the left product is the right latch.
+const OF_PRODUCTS: [u32; 8] = [0, 1, 2, 3, 4, 5, 5, 7];
 
 #[test]
 fn pairs_have_these_classes(rt: HostRuntime) -> Result<(), Fail> {
-    let toggles = row_of(1, 2, [0, 1, 1, 9, 9, 9, 9, 9]);
-    let low = row_of(1, 2, [0, 1, 9, 9, 9, 9, 9, 9]);
-    // the ring needs three frames
-    let ring = row_of(4, 5, [0, 1, 2, 3, 4, 9, 9, 9]);
-    let whole_ring = row_of(3, 4, [0, 1, 2, 3, 0, 9, 9, 9]);
-    let product = row_of(6, 7, [0, 1, 2, 3, 4, 5, 5, 7]);
-    for (left, right, k, due) in [
-        (TOGGLE, TOGGLE, 1, toggles),
-        (TOGGLE, TOGGLE_FROM_ONE, 1, toggles),
-        (TOGGLE, LOW, 2, low),
-        (LOW, RING, 1, ring),
-        (LOW, RING, 2, ring),
-        (LOW, RING, 3, whole_ring),
-        (PRODUCT_OF_LATCHES, LATCH_OF_PRODUCT, 1, product),
-    ] {
+    // a pair, over how many frames, the splits at most, the number of classes, and the least places
+    const GREATEST: &[(&str, &str, u32, u32, u32, [u32; 8])] = &[
+        (TOGGLE, TOGGLE, 1, 1, 2, [0, 1, 1, 9, 9, 9, 9, 9]),
+        (TOGGLE, TOGGLE_FROM_ONE, 1, 1, 2, [0, 1, 1, 9, 9, 9, 9, 9]),
+        (TOGGLE, LOW, 2, 1, 2, [0, 1, 9, 9, 9, 9, 9, 9]),
+        // the ring needs three frames
+        (LOW, RING, 1, 4, 5, [0, 1, 2, 3, 4, 9, 9, 9]),
+        (LOW, RING, 2, 4, 5, [0, 1, 2, 3, 4, 9, 9, 9]),
+        (LOW, RING, 3, 3, 4, [0, 1, 2, 3, 0, 9, 9, 9]),
+        (PRODUCT_OF_LATCHES, LATCH_OF_PRODUCT, 1, 6, 7, OF_PRODUCTS),
+    ];
+    for &(left, right, k, splits, count, least) in GREATEST {
+        let due = Due {
+            splits,
+            count,
+            least,
+        };
         assert!(rt; k > 0 && k <= 16 && are_greatest(rt.alloc(), left, right, k, due)?);
     }
     Ok(())
@@ -103,17 +99,20 @@ fn opens_on(alloc: Global, product: &Product, due: Due) -> Result<bool, AllocErr
 
 #[test]
 fn openings_tell_apart_what_the_first_frames_do(rt: HostRuntime) -> Result<(), Fail> {
-    let alloc = rt.alloc();
-    for (left, right, due) in [
-        (TOGGLE, TOGGLE, row_of(1, 2, [0, 1, 1, 9, 9, 9, 9, 9])),
-        (LOW, RING, row_of(2, 4, [0, 1, 2, 3, 0, 9, 9, 9])),
+    // a pair, the splits, the number of classes, and the least places
+    const OPENINGS: &[(&str, &str, u32, u32, [u32; 8])] = &[
+        (TOGGLE, TOGGLE, 1, 2, [0, 1, 1, 9, 9, 9, 9, 9]),
+        (LOW, RING, 2, 4, [0, 1, 2, 3, 0, 9, 9, 9]),
         // frame 0 tells the inputs and their product apart, and frame 1 the latches
-        (
-            PRODUCT_OF_LATCHES,
-            LATCH_OF_PRODUCT,
-            row_of(2, 7, [0, 1, 2, 3, 4, 5, 5, 7]),
-        ),
-    ] {
+        (PRODUCT_OF_LATCHES, LATCH_OF_PRODUCT, 2, 7, OF_PRODUCTS),
+    ];
+    let alloc = rt.alloc();
+    for &(left, right, splits, count, least) in OPENINGS {
+        let due = Due {
+            splits,
+            count,
+            least,
+        };
         match pair_of(alloc, left, right) {
             Ok(product) => assert!(rt; opens_on(alloc, &product, due)?),
             Err(_) => assert!(rt; false),

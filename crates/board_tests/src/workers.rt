@@ -85,12 +85,14 @@ fn ends_so<R: Threads + Wait + Sync>(
 
 #[test]
 fn any_number_of_workers_ends_at_the_same_classes(rt: HostRuntime) -> Result<(), Fail> {
+    const WORKERS: &[u32] = &[1, 2, 7, 64];
     let alloc = rt.alloc();
     let Ok(product) = pair_of(alloc, DELAY, LATE_DELAY) else {
         assert!(rt; false);
         return Ok(());
     };
-    for workers in [1u32, 2, 7, 64] {
+    for &workers in WORKERS {
+        assert!(rt; 0 < workers && workers <= 64);
         assert!(rt; ends_so(&rt, alloc, &product, workers)?);
     }
     Ok(())

@@ -83,7 +83,8 @@ fn no_change_is_accepted(
 
 // Whether no text with one of these bytes in place of another is accepted.
 fn no_byte_is_accepted(alloc: Global, product: &Product, text: &[u8]) -> bool {
-    for byte in [b'0', b'1', b'2', b'9', b'-', b' ', b'\n', b'!', b'l', b'r'] {
+    const BYTES: &[u8] = b"0129- \n!lr";
+    for &byte in BYTES {
         if no_change_is_accepted(alloc, product, text, byte) != Ok(true) {
             return false;
         }
@@ -123,7 +124,7 @@ fn is_bad(
 
 // First lines with their faults.
 fn bad_heads_are_told(alloc: Global, product: &Product) -> bool {
-    for (head, kind) in [
+    const BAD_HEADS: &[(&str, CertKind)] = &[
         ("seccert 2 k=1 signals=4 tie=0\n", CertKind::Signals),
         ("seccert 2 k=17 signals=3 tie=0\n", CertKind::Limit),
         ("seccert 2 k=0 signals=4 tie=0\n", CertKind::Limit),
@@ -139,7 +140,8 @@ fn bad_heads_are_told(alloc: Global, product: &Product) -> bool {
         ("seccert 2 k=1 signals=3 tie=1\n", CertKind::Tie),
         ("seccert 2 k=1 signals=4 tie=1\n", CertKind::Signals),
         ("seccert 1 k=1 signals=4\n", CertKind::Signals),
-    ] {
+    ];
+    for &(head, kind) in BAD_HEADS {
         if !is_bad(alloc, product, (head, CLASS, PARTS), kind, 1) {
             return false;
         }
@@ -149,7 +151,7 @@ fn bad_heads_are_told(alloc: Global, product: &Product) -> bool {
 
 // Class lines with their faults.
 fn bad_classes_are_told(alloc: Global, product: &Product) -> bool {
-    for (classes, kind, line) in [
+    const BAD_CLASSES: &[(&str, CertKind, u64)] = &[
         ("", CertKind::Outputs, 1),
         ("class l1 !r1\n", CertKind::Outputs, 1),
         ("class c l1\n", CertKind::Outputs, 1),
@@ -167,7 +169,8 @@ fn bad_classes_are_told(alloc: Global, product: &Product) -> bool {
         ("class\n", CertKind::Outputs, 1),
         ("class l1 r1\nclass\n", CertKind::Line, 3),
         ("class c l1 r1\n", CertKind::Order, 3),
-    ] {
+    ];
+    for &(classes, kind, line) in BAD_CLASSES {
         if !is_bad(alloc, product, (HEAD, classes, PARTS), kind, line) {
             return false;
         }
@@ -177,7 +180,7 @@ fn bad_classes_are_told(alloc: Global, product: &Product) -> bool {
 
 // Parts with their faults.
 fn bad_parts_are_told(alloc: Global, product: &Product) -> bool {
-    for (parts, kind, line) in [
+    const BAD_PARTS: &[(&str, CertKind, u64)] = &[
         (
             "base r1\n0 6 2 3 4 0\nstep r1\n0 12 4 7 6 11 10 0\nend\n",
             CertKind::Derivation,
@@ -213,7 +216,8 @@ fn bad_parts_are_told(alloc: Global, product: &Product) -> bool {
             CertKind::Line,
             8,
         ),
-    ] {
+    ];
+    for &(parts, kind, line) in BAD_PARTS {
         if !is_bad(alloc, product, (HEAD, CLASS, parts), kind, line) {
             return false;
         }
@@ -239,12 +243,12 @@ fn the_first_fault_of_a_certificate_is_told(rt: HostRuntime) -> Result<(), Fail>
 fn ties_are_told(
     alloc: Global,
     product: &Product,
-    rows: [(&'static str, Option<(CertKind, u64)>); 3],
+    heads: &[(&str, Option<(CertKind, u64)>)],
 ) -> Result<bool, AllocError> {
-    let parts =
+    const TIED_PARTS: &str =
         "base r1\n-2 0 3 6 5 0\n0 7 2 6 4 0\nstep r1\n-2 0 4 8 6 11 10 0\n0 12 3 7 5 11 9 0\nend\n";
-    for (head, fault) in rows {
-        let text = put_together(alloc, head, CLASS, parts)?;
+    for &(head, fault) in heads {
+        let text = put_together(alloc, head, CLASS, TIED_PARTS)?;
         let told = match fault {
             Some((kind, line)) => is_no(alloc, product, text.as_slice(), kind, line),
             None => is_yes(alloc, product, text.as_slice()),
@@ -258,13 +262,13 @@ fn ties_are_told(
 
 #[test]
 fn a_certificate_of_a_tied_pair_speaks_of_ties(rt: HostRuntime) -> Result<(), Fail> {
-    let rows = [
+    const HEADS: &[(&str, Option<(CertKind, u64)>)] = &[
         ("seccert 2 k=1 signals=3 tie=1\n", None),
         ("seccert 2 k=1 signals=3 tie=0\n", Some((CertKind::Tie, 1))),
         ("seccert 1 k=1 signals=3\n", Some((CertKind::Tie, 1))),
     ];
     match tied_pair_of(rt.alloc(), KEPT, KEPT) {
-        Ok(product) => assert!(rt; ties_are_told(rt.alloc(), &product, rows)?),
+        Ok(product) => assert!(rt; ties_are_told(rt.alloc(), &product, HEADS)?),
         Err(_) => assert!(rt; false),
     }
     Ok(())
@@ -272,14 +276,14 @@ fn a_certificate_of_a_tied_pair_speaks_of_ties(rt: HostRuntime) -> Result<(), Fa
 
 #[test]
 fn a_certificate_of_an_untied_pair_speaks_of_no_ties(rt: HostRuntime) -> Result<(), Fail> {
-    let underived = Some((CertKind::Derivation, 4));
-    let rows = [
+    const UNDERIVED: Option<(CertKind, u64)> = Some((CertKind::Derivation, 4));
+    const HEADS: &[(&str, Option<(CertKind, u64)>)] = &[
         ("seccert 2 k=1 signals=3 tie=1\n", Some((CertKind::Tie, 1))),
-        ("seccert 2 k=1 signals=3 tie=0\n", underived),
-        ("seccert 1 k=1 signals=3\n", underived),
+        ("seccert 2 k=1 signals=3 tie=0\n", UNDERIVED),
+        ("seccert 1 k=1 signals=3\n", UNDERIVED),
     ];
     match pair_of(rt.alloc(), KEPT, KEPT) {
-        Ok(product) => assert!(rt; ties_are_told(rt.alloc(), &product, rows)?),
+        Ok(product) => assert!(rt; ties_are_told(rt.alloc(), &product, HEADS)?),
         Err(_) => assert!(rt; false),
     }
     Ok(())
@@ -315,14 +319,15 @@ fn is_yes_with(alloc: Global, product: &Product, base: &str) -> Result<bool, All
 
 // Whether logs are trimmed as they must be and their certificates are accepted before and after.
 fn logs_are_trimmed(alloc: Global, product: &Product) -> Result<bool, AllocError> {
-    for (whole, kept) in [
+    const LOGS: &[(&str, &str)] = &[
         ("0 6 2 3 4 0\n", "0 6 2 3 4 0\n"),
         ("-2 0 2 0\n0 6 2 3 4 0\n", "0 6 2 3 4 0\n"),
         (
             "-2 0 2 0\n-3 0 3 0\n-3 0 8 0\n-2 0 7 0\n0 6 2 9 4 0\n",
             "-3 0 3 0\n-3 0 7 0\n0 6 2 8 4 0\n",
         ),
-    ] {
+    ];
+    for &(whole, kept) in LOGS {
         if !is_trimmed(alloc, whole, kept)
             || !is_yes_with(alloc, product, whole)?
             || !is_yes_with(alloc, product, kept)?

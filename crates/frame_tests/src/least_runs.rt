@@ -40,7 +40,9 @@ fn is_one_at_end(alloc: Global, product: &Product, frame: u32) -> bool {
 
 #[test]
 fn an_input_that_is_shown_late_is_one_in_that_frame_alone(rt: HostRuntime) -> Result<(), Fail> {
-    for frame in [0, 1, 7, 40] {
+    const FRAMES: &[u32] = &[0, 1, 7, 40];
+    for &frame in FRAMES {
+        assert!(rt; frame <= 60);
         match late_pair(rt.alloc(), frame) {
             Ok(product) => assert!(rt; is_one_at_end(rt.alloc(), &product, frame)),
             Err(_) => assert!(rt; false),

@@ -54,12 +54,14 @@ fn are_paired(classes: &Classes) -> bool {
 
 #[test]
 fn rows_split_classes_by_bits_and_phases(rt: HostRuntime) -> Result<(), Fail> {
-    let mut classes = six_places(rt.alloc())?;
-    for (bits, counts, least, members) in [
+    // a row's bits, the counts, and the least places and the members then
+    const SPLITS: &[(u32, [u32; 3], [u32; 6], [u32; 6])] = &[
         (0b001010, [1, 1, 2], [0, 0, 2, 2, 0, 2], [1, 1, 3, 3, 4, 5]),
         (0b101101, [2, 2, 4], [0, 0, 2, 3, 4, 2], [1, 1, 5, 5, 5, 5]),
         (0b010010, [4, 0, 4], [0, 0, 2, 3, 4, 2], [1, 1, 5, 5, 5, 5]),
-    ] {
+    ];
+    let mut classes = six_places(rt.alloc())?;
+    for &(bits, counts, least, members) in SPLITS {
         assert!(rt; counts_by_row(rt.alloc(), &mut classes, bits)? == counts);
         assert!(rt; table_of(&classes) == [least, members]);
     }
@@ -116,19 +118,21 @@ fn split_alike(
 
 #[test]
 fn words_split_as_their_rows_in_turn(rt: HostRuntime) -> Result<(), Fail> {
-    let high = 1u64 << 63;
-    for (bits, words, added, least) in [
-        (0b100110, [0, !0, !0, 0, 0, !0], 0, [0, 0, 0, 0, 0, 0]),
-        (0b100110, [0; 6], 1, [0, 1, 1, 0, 0, 1]),
-        (0b100110, [1, !1, !2, 2, 1, !1], 1, [0, 0, 2, 2, 0, 0]),
+    const HIGH: u64 = 1 << 63;
+    // a row's bits that split first, the words, how many classes they add, and the least places then
+    const SPLITS: &[(u32, &[u64; 6], u32, [u32; 6])] = &[
+        (0b100110, &[0, !0, !0, 0, 0, !0], 0, [0, 0, 0, 0, 0, 0]),
+        (0b100110, &[0; 6], 1, [0, 1, 1, 0, 0, 1]),
+        (0b100110, &[1, !1, !2, 2, 1, !1], 1, [0, 0, 2, 2, 0, 0]),
         // two classes whose places have the same words
-        (0b001010, [7, !9, !7, 9, 7, !9], 2, [0, 1, 2, 3, 0, 3]),
-        (0b001010, [7, !7, !7, 9, high, !7], 2, [0, 0, 2, 3, 4, 2]),
-        (0b001010, [0, !1, !0, 3, 4, !5], 4, [0, 1, 2, 3, 4, 5]),
-    ] {
+        (0b001010, &[7, !9, !7, 9, 7, !9], 2, [0, 1, 2, 3, 0, 3]),
+        (0b001010, &[7, !7, !7, 9, HIGH, !7], 2, [0, 0, 2, 3, 4, 2]),
+        (0b001010, &[0, !1, !0, 3, 4, !5], 4, [0, 1, 2, 3, 4, 5]),
+    ];
+    for &(bits, words, added, least) in SPLITS {
         let mut classes = six_places(rt.alloc())?;
         counts_by_row(rt.alloc(), &mut classes, bits)?;
-        assert!(rt; split_alike(rt.alloc(), &mut classes, &words, added, least)?);
+        assert!(rt; split_alike(rt.alloc(), &mut classes, words, added, least)?);
     }
     Ok(())
 }

@@ -77,10 +77,11 @@ fn is_laid_out(product: &Product) -> bool {
 
 #[test]
 fn a_product_of_latches_and_a_latch_of_a_product_go_together(rt: HostRuntime) -> Result<(), Fail> {
-    let frames = [0b10000110, 0b01111010, 0b00001000];
+    const INPUTS: [u32; 3] = [3, 1, 0];
+    const FRAMES: [u32; 3] = [0b10000110, 0b01111010, 0b00001000];
     match pair_of(rt.alloc(), PRODUCT_OF_LATCHES, LATCH_OF_PRODUCT) {
         Ok(product) => {
-            assert!(rt; have_frames(rt.alloc(), &product, [3, 1, 0], frames)?);
+            assert!(rt; have_frames(rt.alloc(), &product, INPUTS, FRAMES)?);
             assert!(rt; signals_are_found(&product) && is_laid_out(&product));
         }
         Err(_) => assert!(rt; false),

@@ -94,9 +94,9 @@ fn wide_toggles(alloc: Global, product: &Product, start: &[u64; 8]) -> Result<bo
 
 #[test]
 fn each_of_eight_words_has_runs_of_its_own(rt: HostRuntime) -> Result<(), Fail> {
-    let start = [0, !0, 1, 2, 0x00ff_0000_1234_5678, 5, 1 << 63, 7];
+    const START: &[u64; 8] = &[0, !0, 1, 2, 0x00ff_0000_1234_5678, 5, 1 << 63, 7];
     match pair_of(rt.alloc(), TOGGLE_FROM_EITHER, TOGGLE_FROM_ONE) {
-        Ok(product) => assert!(rt; wide_toggles(rt.alloc(), &product, &start)?),
+        Ok(product) => assert!(rt; wide_toggles(rt.alloc(), &product, START)?),
         Err(_) => assert!(rt; false),
     }
     Ok(())

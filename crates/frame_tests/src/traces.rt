@@ -41,14 +41,15 @@ fn differs_first(alloc: Global, product: &Product, text: &str, first: (u64, u32)
 
 // Texts of a toggling latch and the constant with their faults.
 fn faults_are_told(alloc: Global, product: &Product) -> bool {
-    for (text, kind, line) in [
+    const BAD_TEXTS: &[(&str, TraceKind, u64)] = &[
         ("0\n", TraceKind::Line, 1),
         ("1\nb1\n0\n\n.\n", TraceKind::Line, 2),
         ("1\nb0\n00\n\n.\n", TraceKind::Length, 3),
         ("1\nb0\nx\n\n.\n", TraceKind::Unknown, 3),
         ("1\nb0\n1\n\n.\n", TraceKind::Reset, 3),
         ("1\nb0\n0\n", TraceKind::Truncated, 4),
-    ] {
+    ];
+    for &(text, kind, line) in BAD_TEXTS {
         if !is_fault(alloc, product, text, kind, line) {
             return false;
         }
@@ -75,12 +76,12 @@ fn traces_are_refused_or_replayed(rt: HostRuntime) -> Result<(), Fail> {
 fn starts_are_told(
     alloc: Global,
     pair: Result<Product, PairFault>,
-    texts: [(&'static str, Option<TraceKind>); 3],
+    starts: &[(&str, Option<TraceKind>)],
 ) -> bool {
     let Ok(product) = pair else {
         return false;
     };
-    for (text, kind) in texts {
+    for &(text, kind) in starts {
         let told = match kind {
             Some(kind) => is_fault(alloc, &product, text, kind, 3),
             None => is_written_again(alloc, &product, text),
@@ -94,39 +95,39 @@ fn starts_are_told(
 
 #[test]
 fn a_broken_tie_is_told_after_the_resets(rt: HostRuntime) -> Result<(), Fail> {
-    let alloc = rt.alloc();
-    let texts = [
+    const STARTS: &[(&str, Option<TraceKind>)] = &[
         ("1\nb0\n1001\n\n.\n", Some(TraceKind::Reset)),
         ("1\nb0\n0001\n\n.\n", Some(TraceKind::Tie)),
         ("1\nb0\n0101\n\n.\n", None),
     ];
+    let alloc = rt.alloc();
     let pair = tied_pair_of(alloc, LOW_AND_KEPT, LOW_AND_KEPT);
-    assert!(rt; starts_are_told(alloc, pair, texts));
+    assert!(rt; starts_are_told(alloc, pair, STARTS));
     Ok(())
 }
 
 #[test]
 fn free_latches_are_tied_in_their_order(rt: HostRuntime) -> Result<(), Fail> {
-    let alloc = rt.alloc();
-    let texts = [
+    const STARTS: &[(&str, Option<TraceKind>)] = &[
         ("1\nb0\n0110\n\n.\n", Some(TraceKind::Tie)),
         ("1\nb0\n1000\n\n.\n", Some(TraceKind::Tie)),
         ("1\nb0\n0101\n\n.\n", None),
     ];
+    let alloc = rt.alloc();
     let pair = tied_pair_of(alloc, BOTH_KEPT, BOTH_KEPT_CROSSED);
-    assert!(rt; starts_are_told(alloc, pair, texts));
+    assert!(rt; starts_are_told(alloc, pair, STARTS));
     Ok(())
 }
 
 #[test]
 fn no_tie_is_told_of_an_untied_pair(rt: HostRuntime) -> Result<(), Fail> {
-    let alloc = rt.alloc();
-    let texts = [
+    const STARTS: &[(&str, Option<TraceKind>)] = &[
         ("1\nb0\n0110\n\n.\n", None),
         ("1\nb0\n1000\n\n.\n", None),
         ("1\nb0\n0101\n\n.\n", None),
     ];
+    let alloc = rt.alloc();
     let pair = pair_of(alloc, BOTH_KEPT, BOTH_KEPT_CROSSED);
-    assert!(rt; starts_are_told(alloc, pair, texts));
+    assert!(rt; starts_are_told(alloc, pair, STARTS));
     Ok(())
 }

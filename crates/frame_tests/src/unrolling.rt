@@ -152,8 +152,17 @@ fn worked(alloc: Global, product: &Product) -> Result<bool, AllocError> {
     }
 }
 
+// The literals of the constant and the latches, as numbers.
+const LOW: u32 = 0;
+
+const LEFT: u32 = 2;
+
+const RIGHT: u32 = 4;
+
+const NOT_RIGHT: u32 = 5;
+
 // Two literals, the first and the last frame in which they may differ, and the first frame in which they do with its row.
-type Row = (Lit, Lit, u32, u32, Option<(u32, u32)>);
+type Row = (u32, u32, u32, u32, Option<(u32, u32)>);
 
 // Whether an answer is what a row says.
 fn is_as_told(found: &Separation, seen: Option<(u32, u32)>) -> bool {
@@ -177,6 +186,7 @@ fn comes_out(
     requires frames { frames.now.frames ≡ count }
 {
     let (a, b, first, last, seen) = row;
+    let (a, b) = (Lit::from_number(a), Lit::from_number(b));
     if a.var() >= 3 || b.var() >= 3 || first > last || last >= count {
         return Ok(false);
     }
@@ -189,16 +199,16 @@ fn comes_out(
 fn reset_answers(alloc: Global, work: &mut Workspace, product: &Product) -> Result<bool, AllocError>
     requires { places_of product.now ≡ 3 }
 {
+    const QUESTIONS: &[Row] = &[
+        (LEFT, RIGHT, 0, 2, None),
+        (LEFT, NOT_RIGHT, 0, 2, Some((0, 0b000))),
+        (LOW, LEFT, 0, 2, Some((1, 0b110))),
+        (LOW, LEFT, 0, 0, None),
+        (LOW, RIGHT, 2, 2, None),
+        (LOW, NOT_RIGHT, 1, 2, Some((2, 0b000))),
+    ];
     let frames = Prepared::reset_frames(alloc, product, 3)?;
-    let (low, left, right) = (Lit::of(0, false), Lit::of(1, false), Lit::of(2, false));
-    for row in [
-        (left, right, 0, 2, None),
-        (left, right.not(), 0, 2, Some((0, 0b000))),
-        (low, left, 0, 2, Some((1, 0b110))),
-        (low, left, 0, 0, None),
-        (low, right, 2, 2, None),
-        (low, right.not(), 1, 2, Some((2, 0b000))),
-    ] {
+    for &row in QUESTIONS {
         if !comes_out(alloc, work, &frames, 3, row)? {
             return Ok(false);
         }
@@ -210,17 +220,17 @@ fn reset_answers(alloc: Global, work: &mut Workspace, product: &Product) -> Resu
 fn step_answers(alloc: Global, work: &mut Workspace, product: &Product) -> Result<bool, AllocError>
     requires { places_of product.now ≡ 3 }
 {
+    const QUESTIONS: &[Row] = &[
+        (LEFT, RIGHT, 0, 1, None),
+        (LOW, LEFT, 0, 0, Some((0, 0b110))),
+        (LOW, RIGHT, 1, 1, Some((1, 0b110))),
+    ];
     let classes = two_classes(alloc)?;
     if classes.len() != 3 {
         return Ok(false);
     }
     let frames = Prepared::step_frames(alloc, product, 1, &classes)?;
-    let (low, left, right) = (Lit::of(0, false), Lit::of(1, false), Lit::of(2, false));
-    for row in [
-        (left, right, 0, 1, None),
-        (low, left, 0, 0, Some((0, 0b110))),
-        (low, right, 1, 1, Some((1, 0b110))),
-    ] {
+    for &row in QUESTIONS {
         if !comes_out(alloc, work, &frames, 2, row)? {
             return Ok(false);
         }

@@ -25,24 +25,21 @@ fn has_fault(alloc: Global, text: &[u8], kind: ListKind, line: u64) -> bool {
 
 #[test]
 fn names_with_one_space_between_are_read(rt: HostRuntime) -> Result<(), Fail> {
-    let alloc = rt.alloc();
-    assert!(rt; lists(alloc, b"", &[]));
-    assert!(rt; lists(alloc, b"a b\n", &[("a", "b")]));
-    assert!(rt;
-        lists(
-            alloc,
-            b"a a\n\t= .aag\r\n",
-            &[("a", "a"), ("\t=", ".aag\r")]
-        )
-    );
-    assert!(rt; lists(alloc, "ä\u{2003} €\n".as_bytes(), &[("ä\u{2003}", "€")]));
+    const LISTS: &[(&str, &[(&str, &str)])] = &[
+        ("", &[]),
+        ("a b\n", &[("a", "b")]),
+        ("a a\n\t= .aag\r\n", &[("a", "a"), ("\t=", ".aag\r")]),
+        ("ä\u{2003} €\n", &[("ä\u{2003}", "€")]),
+    ];
+    for &(text, pairs) in LISTS {
+        assert!(rt; lists(rt.alloc(), text.as_bytes(), pairs));
+    }
     Ok(())
 }
 
 #[test]
 fn the_first_fault_is_told(rt: HostRuntime) -> Result<(), Fail> {
-    let alloc = rt.alloc();
-    let rows: [(&[u8], ListKind, u64); 10] = [
+    const TEXTS: &[(&[u8], ListKind, u64)] = &[
         (b"a", ListKind::Truncated, 1),
         (b"a b\na  b", ListKind::Truncated, 2),
         (b"a  a\n", ListKind::Line, 1),
@@ -54,8 +51,8 @@ fn the_first_fault_is_told(rt: HostRuntime) -> Result<(), Fail> {
         (b"a b\na b\na \n", ListKind::Line, 3),
         (b"a b\n\xff b\n", ListKind::Line, 2),
     ];
-    for (text, kind, line) in rows {
-        assert!(rt; has_fault(alloc, text, kind, line));
+    for &(text, kind, line) in TEXTS {
+        assert!(rt; has_fault(rt.alloc(), text, kind, line));
     }
     Ok(())
 }

@@ -28,6 +28,14 @@ fn pair_of(alloc: Global, left: &str, right: &str) -> Result<Product, AllocError
     }
 }
 
+fn products_of(alloc: Global, pairs: &[(&str, &str)]) -> Result<Vec<Product>, AllocError> {
+    let mut products = Vec::new(alloc);
+    for &(left, right) in pairs {
+        products.push(pair_of(alloc, left, right)?)?;
+    }
+    Ok(products)
+}
+
 // Whether an answer is this place and these numbers: a frame and an output, or a number of classes and the outputs left out.
 fn is_different(solved: &Solved, index: u32, frame: u64, output: u32) -> bool {
     match &solved.outcome {
@@ -54,10 +62,10 @@ fn is_undecided(solved: &Solved, index: u32, classes: u32, outputs: &[u32]) -> b
 
 #[test]
 fn two_workers_meet_over_two_pairs(rt: HostRuntime) -> Result<(), Fail> {
+    const PAIRS: &[(&str, &str)] = &[(TOGGLE, TOGGLE), (TOGGLE, LOW)];
     let alloc = rt.alloc();
-    let mut products = Vec::new(alloc);
-    products.push(pair_of(alloc, TOGGLE, TOGGLE)?)?;
-    products.push(pair_of(alloc, TOGGLE, LOW)?)?;
+    let products = products_of(alloc, PAIRS)?;
+    assert!(rt; products.len() == 2);
     let gate = Meeting::new();
     let solved = run_pairs(&rt, alloc, products.as_slice(), 1, 2, &gate)?;
     assert!(rt; gate.is_met());
@@ -69,12 +77,13 @@ fn two_workers_meet_over_two_pairs(rt: HostRuntime) -> Result<(), Fail> {
 
 #[test]
 fn any_number_of_workers_answers_in_the_order_of_the_list(rt: HostRuntime) -> Result<(), Fail> {
+    const PAIRS: &[(&str, &str)] = &[(TOGGLE, LOW), (LOW, RING), (TOGGLE, TOGGLE)];
+    const WORKERS: &[u32] = &[1, 2, 3, 64];
     let alloc = rt.alloc();
-    let mut products = Vec::new(alloc);
-    products.push(pair_of(alloc, TOGGLE, LOW)?)?;
-    products.push(pair_of(alloc, LOW, RING)?)?;
-    products.push(pair_of(alloc, TOGGLE, TOGGLE)?)?;
-    for workers in [1u32, 2, 3, 64] {
+    let products = products_of(alloc, PAIRS)?;
+    assert!(rt; products.len() == 3);
+    for &workers in WORKERS {
+        assert!(rt; 0 < workers && workers <= 64);
         let solved = run_pairs(&rt, alloc, products.as_slice(), 2, workers, &FreeGate)?;
         assert!(rt; solved.len() == 3);
         assert!(rt; is_different(&solved[0], 0, 1, 0));

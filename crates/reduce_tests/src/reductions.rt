@@ -34,8 +34,8 @@ const FEWER_LEVELS: &str = "aag 7 3 0 2 3\n2\n4\n14\n6\n12\n8 2 4\n6 8 14\n12 8 
 
 #[test]
 fn worked_netlists_lose_their_equal_signals(rt: HostRuntime) -> Result<(), Fail> {
-    let alloc = rt.alloc();
-    for (source, k, left, signals, classes) in [
+    // a source, over how many frames it is reduced, what is left, and the signals and classes of its pair with the stub
+    const REDUCTIONS: &[(&str, u32, &str, u32, u32)] = &[
         (TOGGLES, 1, ONE_TOGGLE, 4, 2),
         (TOGGLE, 1, TOGGLE, 2, 2),
         (RING, 1, RING, 5, 5),
@@ -43,7 +43,10 @@ fn worked_netlists_lose_their_equal_signals(rt: HostRuntime) -> Result<(), Fail>
         (NO_PRODUCT, 1, FREE_LATCH, 4, 3),
         (KEPT, 1, KEPT_ALONE, 4, 3),
         (LEVELS, 1, FEWER_LEVELS, 8, 7),
-    ] {
+    ];
+    let alloc = rt.alloc();
+    for &(source, k, left, signals, classes) in REDUCTIONS {
+        assert!(rt; 0 < k && k <= 16);
         let made = reduced(alloc, source.as_bytes(), k)?;
         let text = write_text_net(alloc, &made.net)?;
         assert!(rt; text.as_slice() == left.as_bytes());
@@ -54,14 +57,16 @@ fn worked_netlists_lose_their_equal_signals(rt: HostRuntime) -> Result<(), Fail>
 
 #[test]
 fn a_reduced_netlist_is_equivalent_to_its_source_and_stays(rt: HostRuntime) -> Result<(), Fail> {
-    let alloc = rt.alloc();
-    for (source, k) in [
+    const SOURCES: &[(&str, u32)] = &[
         (TOGGLES, 1),
         (RING, 3),
         (NO_PRODUCT, 1),
         (KEPT, 1),
         (LEVELS, 1),
-    ] {
+    ];
+    let alloc = rt.alloc();
+    for &(source, k) in SOURCES {
+        assert!(rt; 0 < k && k <= 16);
         let first = reduced(alloc, source.as_bytes(), k)?;
         let text = write_text_net(alloc, &first.net)?;
         assert!(rt; are_equivalent(alloc, source.as_bytes(), text.as_slice(), k)?);
@@ -83,12 +88,13 @@ fn as_binary_the_variables_are_numbered_anew(rt: HostRuntime) -> Result<(), Fail
 
 #[test]
 fn a_stub_has_inputs_and_low_outputs_alone(rt: HostRuntime) -> Result<(), Fail> {
-    let alloc = rt.alloc();
-    for (source, left) in [
+    const STUBS: &[(&str, &str)] = &[
         (TOGGLE, "aag 0 0 0 1 0\n0\n"),
         (LEVELS, "aag 3 3 0 2 0\n2\n4\n6\n0\n0\n"),
         ("aag 0 0 0 0 0\n", "aag 0 0 0 0 0\n"),
-    ] {
+    ];
+    let alloc = rt.alloc();
+    for &(source, left) in STUBS {
         let net = netlist_of(alloc, source.as_bytes())?;
         let text = write_text_net(alloc, &stub(alloc, &net)?)?;
         assert!(rt; text.as_slice() == left.as_bytes());
