@@ -1,12 +1,14 @@
 use Rattle.product_machine.proofs.Follow.{length_cells, arranged}
-use Rattle.std.proofs.Common.{◌≡◌, ◌∙◌, ◌≤◌, ◌-◌, ◌++◌, ◌*◌, ℕ, ℤ, List, length, subst, sym, ap, ap₂, arith}
+use Rattle.std.proofs.Common.{◌≡◌, ◌∙◌, ◌≤◌, ◌-◌, ◌++◌, ◌*◌, ℕ, ℤ, List, length, subst, sym, ap, ap₂, mul-le-mul_right, arith}
 use Rattle.circ_model.specs.Meaning.{places_of}
 use Rattle.product_machine.specs.declared.cell.Cell.{Cell}
 use Rattle.product_machine.specs.Cells.{IsArranged, cells}
 use Rattle.cnf_store.specs.Clauses.{Formula}
 use Rattle.frame_unroll.specs.Frames.{literal_in, frames, class_clauses}
 use Rattle.frame_unroll.specs.Unrolled.{Unrolling, plain_clauses}
+use Rattle.std.specs.List.{All}
 use Rattle.frame_unroll.proofs.Appending.{all_room}
+use Rattle.frame_unroll.proofs.Questions.{AreWithin}
 use Rattle.frame_unroll.proofs.outline.Outline.clauses.Goals as goal
 
 pub add_frames-requires-clause-arranged : goal.add_frames-requires-clause-arranged
@@ -36,3 +38,19 @@ returns-clause-clauses c =
     (c.add_classes.ensures.vars ∙ c.add_frames.ensures.vars ∙ ap (λ (f : Formula). f.vars) c.in_ok-cnf.ensures.empty ∙ ap (λ (m : ℕ). count * m) c.len-n.ensures.places)
     (c.in_ok-add_classes.ensures.ok ∙ ap₂ (λ (old : List (List ℤ)) (m : ℕ). old ++ class_clauses (literal_in m) (count - 1) c.as_slice.result.now) first c.len-n.ensures.places
     ∙ ap (λ (ps : List (ℕ × ℕ)). frames (literal_in (places_of pair)) reset (cells pair) count ++ class_clauses (literal_in (places_of pair)) (count - 1) ps) c.as_slice.ensures.value))
+
+pub add_classes-requires-clause-literals : goal.add_classes-requires-clause-literals
+add_classes-requires-clause-literals c =
+    subst (All (AreWithin c.len-n.result)) (sym c.as_slice.ensures.value)
+    (subst (λ (m : ℕ). All (AreWithin m) c.self.inside.pairs.items) (sym c.len-n.ensures.places) c.self.invariant.fine.needed)
+
+pub add_classes-requires-clause-room : goal.add_classes-requires-clause-room
+add_classes-requires-clause-room c =
+    let less : (c.self.inside.count - 1) * c.len-n.result ≤ c.self.inside.count * c.len-n.result = mul-le-mul_right c.len-n.result (omega arith) in
+    let room = all_room c.self.inside.count c.len-n.result c.self.invariant.few c.len-n.ensures.few in omega arith
+
+pub add_classes-requires-clause-variables : goal.add_classes-requires-clause-variables
+add_classes-requires-clause-variables c =
+    let less : (c.self.inside.count - 1) * c.len-n.result ≤ c.self.inside.count * c.len-n.result = mul-le-mul_right c.len-n.result (omega arith) in
+    let vars : c.add_frames.new.cnf.vars ≡ c.self.inside.count * c.len-n.result = c.add_frames.ensures.vars ∙ ap (λ (f : Formula). f.vars) c.in_ok-cnf.ensures.empty in
+    omega arith
