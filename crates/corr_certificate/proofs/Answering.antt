@@ -15,3 +15,8 @@ ok_map P Q (Err x) f h = tt
 pub err_map : {A E : Type 0} (P Q : E → Type 0) (o : Result A E) → ((x : E) → P x → Q x) → IfErr o P → IfErr o Q
 err_map P Q (Ok x) f h = tt
 err_map P Q (Err x) f h = f x h
+
+-- what holds of each value holds of an answer's
+pub ok_each : {A E : Type 0} (Q : A → Type 0) (o : Result A E) → ((x : A) → Q x) → IfOk o Q
+ok_each Q (Ok x) f = f x
+ok_each Q (Err x) f = tt
