@@ -7,13 +7,11 @@ pub fn one_answer()
 {}
 
 /// A certificate without a fault supports that the outputs agree in every frame of every run.
-#[tactic(auto, using(crate::proofs::Agreeing::supported_agree))]
 pub fn supported_outputs_agree()
     ensures { SupportedAgree }
 {}
 
 /// The classes of the greatest correspondence are a correspondence, as a certificate's writer asks.
-#[tactic(auto, using(crate::proofs::Greatest::greatest_stable))]
 pub fn greatest_classes_are_stable()
     ensures { GreatestAreStable }
 {}
