@@ -1,7 +1,7 @@
 //! The words as clap takes them: what its matches say becomes the command.
 ghost use Rattle.std.specs.Prelude.{◌≡◌, ◌≤◌, List, IfErr, IfOk, IfSome, MatchResult, None, Some, false, option_map, true};
 ghost use Rattle.clap.specs.Words.{Row, first_of, found_of, rows_of, subcommand_rows_of};
-ghost use Rattle.command_line.specs.Asked.{ForBatch, ForCheck, ForClimb, ForDemo, ForReduce, ForReplay, ForVerify, IsBatchWithin, IsCheckWithin, IsClimbWithin, IsDemoWithin, IsReduceWithin, asked_of, batch_asked, check_asked, climb_asked, options_asked, reduce_asked, replay_asked, verify_asked, IsWithin, batch_of, check_of, climb_of, depth_from, demo_of, most_from, reduce_of, replay_of, verify_of};
+ghost use Rattle.command_line.specs.Asked.{asked_of, IsWithin, batch_of, check_of, climb_of, depth_from, demo_of, most_from, reduce_of, replay_of, verify_of};
 ghost use Rattle.command_line.specs.Meant.{number_of, has_flag, values_matched, asked_under, asked_where_named, matched, is_taken, taken_command};
 ghost use Rattle.command_line.specs.Plain.{texts};
 
@@ -54,9 +54,9 @@ fn depth_from(k: u32, asked: Option<u32>) -> u32
     }
 }
 
-fn check_of<'w>(found: &ArgMatches<'w>) -> Option<Check<'w>>
-    ensures command { option_map (λ c. ForCheck (check_asked c)) result ≡ check_of (values_matched (rows_of (found_of found.now))) }
-    ensures within { IfSome result (λ c. IsCheckWithin (options_asked c.options)) }
+fn check_of<'w>(found: &ArgMatches<'w>) -> Option<Command<'w>>
+    ensures command { option_map asked_of result ≡ check_of (values_matched (rows_of (found_of found.now))) }
+    ensures within { IfSome result (λ c. IsWithin (asked_of c)) }
 {
     let left = text_of(found, "LEFT")?;
     let right = text_of(found, "RIGHT")?;
@@ -74,49 +74,51 @@ fn check_of<'w>(found: &ArgMatches<'w>) -> Option<Check<'w>>
         tied: has_flag(found, "tie"),
         least: has_flag(found, "least"),
     };
-    Some(Check {
+    Some(Command::Check(Check {
         left,
         right,
         options,
-    })
+    }))
 }
 
-fn replay_of<'w>(found: &ArgMatches<'w>) -> Option<Replay<'w>>
-    ensures { option_map (λ c. ForReplay (replay_asked c)) result ≡ replay_of (values_matched (rows_of (found_of found.now))) }
+fn replay_of<'w>(found: &ArgMatches<'w>) -> Option<Command<'w>>
+    ensures command { option_map asked_of result ≡ replay_of (values_matched (rows_of (found_of found.now))) }
+    ensures within { IfSome result (λ c. IsWithin (asked_of c)) }
 {
     let left = text_of(found, "LEFT")?;
     let right = text_of(found, "RIGHT")?;
     let trace = text_of(found, "TRACE")?;
-    Some(Replay {
+    Some(Command::Replay(Replay {
         left,
         right,
         trace,
         tied: has_flag(found, "tie"),
-    })
+    }))
 }
 
-fn verify_of<'w>(found: &ArgMatches<'w>) -> Option<Verify<'w>>
-    ensures { option_map (λ c. ForVerify (verify_asked c)) result ≡ verify_of (values_matched (rows_of (found_of found.now))) }
+fn verify_of<'w>(found: &ArgMatches<'w>) -> Option<Command<'w>>
+    ensures command { option_map asked_of result ≡ verify_of (values_matched (rows_of (found_of found.now))) }
+    ensures within { IfSome result (λ c. IsWithin (asked_of c)) }
 {
     let left = text_of(found, "LEFT")?;
     let right = text_of(found, "RIGHT")?;
     let cert = text_of(found, "CERT")?;
-    Some(Verify {
+    Some(Command::Verify(Verify {
         left,
         right,
         cert,
         tied: has_flag(found, "tie"),
-    })
+    }))
 }
 
-fn demo_of(found: &ArgMatches) -> Option<Demo>
-    ensures command { option_map ForDemo result ≡ demo_of (values_matched (rows_of (found_of found.now))) }
-    ensures within { IfSome result IsDemoWithin }
+fn demo_of<'w>(found: &ArgMatches<'w>) -> Option<Command<'w>>
+    ensures command { option_map asked_of result ≡ demo_of (values_matched (rows_of (found_of found.now))) }
+    ensures within { IfSome result (λ c. IsWithin (asked_of c)) }
 {
     let n = number_of(found, "N", 0, MOST_SIZE)?;
     let k = number_of(found, "k", 1, MOST_DEPTH)?;
     let workers = number_of(found, "j", 1, MOST_WORKERS)?;
-    Some(Demo { n, k, workers })
+    Some(Command::Demo(Demo { n, k, workers }))
 }
 
 // The greatest depth of the induction that is tried.
@@ -129,72 +131,65 @@ fn most_from(asked: Option<u32>) -> u32
     }
 }
 
-fn climb_of<'w>(found: &ArgMatches<'w>) -> Option<Climb<'w>>
-    ensures command { option_map (λ c. ForClimb (climb_asked c)) result ≡ climb_of (values_matched (rows_of (found_of found.now))) }
-    ensures within { IfSome result (λ c. IsClimbWithin (climb_asked c)) }
+fn climb_of<'w>(found: &ArgMatches<'w>) -> Option<Command<'w>>
+    ensures command { option_map asked_of result ≡ climb_of (values_matched (rows_of (found_of found.now))) }
+    ensures within { IfSome result (λ c. IsWithin (asked_of c)) }
 {
     let left = text_of(found, "LEFT")?;
     let right = text_of(found, "RIGHT")?;
     let most = most_from(number_of(found, "m", 1, MOST_DEPTH));
     let workers = number_of(found, "j", 1, MOST_WORKERS)?;
     let least = has_flag(found, "least");
-    Some(Climb {
+    Some(Command::Climb(Climb {
         left,
         right,
         most,
         workers,
         least,
-    })
+    }))
 }
 
-fn reduce_of<'w>(found: &ArgMatches<'w>) -> Option<Reduce<'w>>
-    ensures command { option_map (λ c. ForReduce (reduce_asked c)) result ≡ reduce_of (values_matched (rows_of (found_of found.now))) }
-    ensures within { IfSome result (λ c. IsReduceWithin (reduce_asked c)) }
+fn reduce_of<'w>(found: &ArgMatches<'w>) -> Option<Command<'w>>
+    ensures command { option_map asked_of result ≡ reduce_of (values_matched (rows_of (found_of found.now))) }
+    ensures within { IfSome result (λ c. IsWithin (asked_of c)) }
 {
     let net = text_of(found, "NET")?;
     let out = text_of(found, "OUT")?;
     let depth = number_of(found, "k", 1, MOST_DEPTH)?;
     let workers = number_of(found, "j", 1, MOST_WORKERS)?;
     let binary = has_flag(found, "binary");
-    Some(Reduce {
+    Some(Command::Reduce(Reduce {
         net,
         out,
         k: depth,
         workers,
         binary,
-    })
+    }))
 }
 
-fn batch_of<'w>(found: &ArgMatches<'w>) -> Option<Batch<'w>>
-    ensures command { option_map (λ c. ForBatch (batch_asked c)) result ≡ batch_of (values_matched (rows_of (found_of found.now))) }
-    ensures within { IfSome result (λ c. IsBatchWithin (batch_asked c)) }
+fn batch_of<'w>(found: &ArgMatches<'w>) -> Option<Command<'w>>
+    ensures command { option_map asked_of result ≡ batch_of (values_matched (rows_of (found_of found.now))) }
+    ensures within { IfSome result (λ c. IsWithin (asked_of c)) }
 {
     let list = text_of(found, "LIST")?;
     let k = number_of(found, "k", 1, MOST_DEPTH)?;
     let workers = number_of(found, "j", 1, MOST_WORKERS)?;
-    Some(Batch { list, k, workers })
+    Some(Command::Batch(Batch { list, k, workers }))
 }
 
 // The subcommand of this name.
 fn named(name: &str) -> Option<Subcommand>
     ensures { (rows : List Row) → matched (Some (name.now, rows)) ≡ asked_where_named result rows }
 {
-    if name == "check" {
-        Some(Subcommand::Check)
-    } else if name == "replay" {
-        Some(Subcommand::Replay)
-    } else if name == "verify" {
-        Some(Subcommand::Verify)
-    } else if name == "demo" {
-        Some(Subcommand::Demo)
-    } else if name == "climb" {
-        Some(Subcommand::Climb)
-    } else if name == "reduce" {
-        Some(Subcommand::Reduce)
-    } else if name == "batch" {
-        Some(Subcommand::Batch)
-    } else {
-        None
+    match name {
+        "check" => Some(Subcommand::Check),
+        "replay" => Some(Subcommand::Replay),
+        "verify" => Some(Subcommand::Verify),
+        "demo" => Some(Subcommand::Demo),
+        "climb" => Some(Subcommand::Climb),
+        "reduce" => Some(Subcommand::Reduce),
+        "batch" => Some(Subcommand::Batch),
+        _ => None,
     }
 }
 
@@ -204,13 +199,13 @@ fn command_under<'w>(named: Subcommand, found: &ArgMatches<'w>) -> Option<Comman
     ensures within { IfSome result (λ c. IsWithin (asked_of c)) }
 {
     match named {
-        Subcommand::Check => Some(Command::Check(check_of(found)?)),
-        Subcommand::Replay => Some(Command::Replay(replay_of(found)?)),
-        Subcommand::Verify => Some(Command::Verify(verify_of(found)?)),
-        Subcommand::Demo => Some(Command::Demo(demo_of(found)?)),
-        Subcommand::Climb => Some(Command::Climb(climb_of(found)?)),
-        Subcommand::Reduce => Some(Command::Reduce(reduce_of(found)?)),
-        Subcommand::Batch => Some(Command::Batch(batch_of(found)?)),
+        Subcommand::Check => check_of(found),
+        Subcommand::Replay => replay_of(found),
+        Subcommand::Verify => verify_of(found),
+        Subcommand::Demo => demo_of(found),
+        Subcommand::Climb => climb_of(found),
+        Subcommand::Reduce => reduce_of(found),
+        Subcommand::Batch => batch_of(found),
     }
 }
 
