@@ -1,9 +1,10 @@
 -- The lines of the usage text, and the command that is made of them for clap: a required subcommand for each line, and nothing else
 -- but clap's own help.
-use Rattle.std.specs.Prelude.{◌≡◌, ℕ, true, false, codes, List, [], ◌∷◌, Some, fold}
-use Rattle.clap.specs.Words.{App, Rule, Shape, Text, new_app, new_rule, with_rule, with_subcommand, app_of}
+use Rattle.std.specs.Prelude.{◌≡◌, ℕ, Bool, true, false, codes, List, [], ◌∷◌, Some, fold, map}
+use Rattle.clap.specs.Words.{App, Rule, Shape, Text, new_app, new_rule, with_rule, with_subcommand, app_of, rule_of}
 use Rattle.clap.specs.Simple.{on_top}
 use Rattle.clap.specs.declared.builder.action.ArgAction.TheVariants.{Set, SetTrue}
+use Rattle.clap.specs.declared.builder.arg.Arg.{Arg}
 use Rattle.clap.specs.declared.builder.command.Command.{Command}
 use Rattle.clap.specs.declared.builder.command.Command.TheViews.{out-Command as fields_of}
 use Rattle.clap.specs.declared.builder.value_parser.ValueParser.TheVariants as readers
@@ -129,6 +130,10 @@ part_rule parts.Workers = option_rule workers
 part_rule (parts.Flag id) = option_rule (flag id.now)
 part_rule (parts.File id) = option_rule (file id.now)
 
+-- arguments have the rules of these parts, and none is global
+abbrev pub AreArgsOf : List Arg → List Part → Type 0
+AreArgsOf args ps = map {B = Rule × Bool} (λ a. (rule_of a, a.global)) args ≡ map {B = Rule × Bool} (λ p. (part_rule p, false)) ps
+
 abbrev pub with_parts : App → List Part → App
 with_parts app ps = fold (λ a p. with_rule a (part_rule p)) app ps
 
@@ -161,6 +166,10 @@ subcommand_app subcommands.Demo = demo_app
 subcommand_app subcommands.Climb = climb_app
 subcommand_app subcommands.Reduce = reduce_app
 subcommand_app subcommands.Batch = batch_app
+
+-- commands are those of these subcommands
+abbrev pub AreCommandsOf : List Command → List Subcommand → Type 0
+AreCommandsOf commands all = map {B = App × Bool} (λ c. (app_of c, (fields_of c).has_globals)) commands ≡ map {B = App × Bool} (λ s. (subcommand_app s, false)) all
 
 abbrev pub with_subcommands : App → List Subcommand → App
 with_subcommands app all = fold (λ a s. with_subcommand a (subcommand_app s).top) app all

@@ -1,7 +1,7 @@
 //! The command that is given to clap: a required subcommand for each line of the usage text. Its own help is clap's.
 ghost use Rattle.std.specs.Prelude.{◌≡◌, [], ◌∷◌, codes, false, IfOk};
-ghost use Rattle.clap.specs.Words.{App, new_app, rule_of};
-ghost use Rattle.command_line.specs.App.{name, size, number, depth, search_depth, most, workers, file, flag, name_rule, option_rule, check_app, replay_app, verify_app, demo_app, climb_app, reduce_app, batch_app, sec_app, part_rule, with_parts, subcommand_app, with_subcommands, IsCommand};
+ghost use Rattle.clap.specs.Words.{new_app, rule_of};
+ghost use Rattle.command_line.specs.App.{name, size, number, depth, search_depth, most, workers, file, flag, name_rule, option_rule, check_app, replay_app, verify_app, demo_app, climb_app, reduce_app, batch_app, sec_app, part_rule, with_parts, subcommand_app, AreArgsOf, AreCommandsOf, IsCommand};
 
 use crate::command::{MOST_DEPTH, MOST_SEARCH_DEPTH, MOST_SIZE, MOST_WORKERS};
 use clap::builder::ValueParser;
@@ -111,6 +111,17 @@ fn part_arg<'a>(alloc: Global, part: Part<'a>) -> Arg<'a>
     }
 }
 
+// The arguments of these parts.
+fn args_of<'a>(alloc: Global, parts: &[Part<'a>]) -> Result<Vec<Arg<'a>>, AllocError>
+    ensures { IfOk result (λ args. AreArgsOf args.items parts.entry.now) }
+{
+    let mut args = Vec::new(alloc);
+    for at in 0..parts.len() {
+        args.push(part_arg(alloc, parts[at]))?;
+    }
+    Ok(args)
+}
+
 // The command of these parts.
 fn command_of<'a>(
     alloc: Global,
@@ -119,11 +130,8 @@ fn command_of<'a>(
 ) -> Result<Command<'a>, AllocError>
     ensures { IfOk result (IsCommand (with_parts (new_app name.entry.now) parts.entry.now)) }
 {
-    let mut command = Command::new(alloc, name);
-    for at in 0..parts.len() {
-        command = command.arg(part_arg(alloc, parts[at]))?;
-    }
-    Ok(command)
+    let args = args_of(alloc, parts)?;
+    Command::new(alloc, name).args(args)
 }
 
 fn check_command<'a>(alloc: Global) -> Result<Command<'a>, AllocError>
@@ -252,28 +260,23 @@ fn command_named<'a>(alloc: Global, named: Subcommand) -> Result<Command<'a>, Al
     }
 }
 
-// The command with these subcommands more.
-fn with_subcommands<'a>(
-    alloc: Global,
-    command: Command<'a>,
-    all: &[Subcommand],
-) -> Result<Command<'a>, AllocError>
-    ensures { (app : App) → IsCommand app command.entry → IfOk result (IsCommand (with_subcommands app all.now)) }
+// The commands of these subcommands.
+fn commands_of<'a>(alloc: Global, all: &[Subcommand]) -> Result<Vec<Command<'a>>, AllocError>
+    ensures { IfOk result (λ commands. AreCommandsOf commands.items all.now) }
 {
-    let mut command = command;
+    let mut commands = Vec::new(alloc);
     for at in 0..all.len() {
-        command = command.subcommand(command_named(alloc, all[at])?)?;
+        commands.push(command_named(alloc, all[at])?)?;
     }
-    Ok(command)
+    Ok(commands)
 }
 
 /// The whole command.
 pub(crate) fn sec_command<'a>(alloc: Global) -> Result<Command<'a>, AllocError>
     ensures { IfOk result (IsCommand sec_app) }
 {
-    with_subcommands(
+    let subcommands = commands_of(
         alloc,
-        Command::new(alloc, "sec").subcommand_required(true),
         &[
             Subcommand::Check,
             Subcommand::Replay,
@@ -283,5 +286,8 @@ pub(crate) fn sec_command<'a>(alloc: Global) -> Result<Command<'a>, AllocError>
             Subcommand::Reduce,
             Subcommand::Batch,
         ],
-    )
+    )?;
+    Command::new(alloc, "sec")
+        .subcommand_required(true)
+        .subcommands(subcommands)
 }
