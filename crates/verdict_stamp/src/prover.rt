@@ -150,6 +150,36 @@ impl<'v, 'p> Model for Prover<'v, 'p> {
         × IfSome p.step (IsOf (step_of p.current.now)) };
 }
 
+// The frames from reset of a version's first question: those that were kept, or else they are made.
+fn base_frames<'p>(
+    alloc: Global,
+    kept: Option<Prepared<'p>>,
+    version: &Version<'p>,
+) -> Result<Prepared<'p>, AllocError>
+    requires kept { IfSome kept (IsOf (base_of version.now)) }
+    ensures { IfOk result (IsOf (base_of version.now)) }
+{
+    match kept {
+        Some(made) => Ok(made),
+        None => Prepared::reset_frames(alloc, version.product(), version.k()),
+    }
+}
+
+// Those of its second question, likewise.
+fn step_frames<'p>(
+    alloc: Global,
+    kept: Option<Prepared<'p>>,
+    version: &Version<'p>,
+) -> Result<Prepared<'p>, AllocError>
+    requires kept { IfSome kept (IsOf (step_of version.now)) }
+    ensures { IfOk result (IsOf (step_of version.now)) }
+{
+    match kept {
+        Some(made) => Ok(made),
+        None => Prepared::step_frames(alloc, version.product(), version.k(), version.classes()),
+    }
+}
+
 // Whether a run has the pair apart in one of its first k frames, asked over whole frames, which are made where they aren't yet.
 fn ask_base<'p>(
     alloc: Global,
@@ -168,10 +198,7 @@ fn ask_base<'p>(
     let product = version.product();
     let _places = product.len();
     let (a, b) = version.classes().needed(pair.member);
-    let made = match frames.take() {
-        Some(made) => made,
-        None => Prepared::reset_frames(alloc, product, version.k())?,
-    };
+    let made = base_frames(alloc, frames.take(), version)?;
     let found = made.find_in(alloc, work, a, b, 0, version.k() - 1);
     *frames = Some(made);
     found
@@ -196,10 +223,7 @@ fn ask_step<'p>(
     let _places = product.len();
     let k = version.k();
     let (a, b) = version.classes().needed(pair.member);
-    let made = match frames.take() {
-        Some(made) => made,
-        None => Prepared::step_frames(alloc, product, k, version.classes())?,
-    };
+    let made = step_frames(alloc, frames.take(), version)?;
     let found = made.find_in(alloc, work, a, b, k, k);
     *frames = Some(made);
     found
