@@ -1,4 +1,4 @@
-use Rattle.std.proofs.Common.{◌∙◌, ℕ, List, subst, sym, arith}
+use Rattle.std.proofs.Common.{◌∙◌, subst, sym, arith}
 use Rattle.and_graph.specs.Lemmas.{SomeHolds}
 use Rattle.and_graph.proofs.cone.Cone.recall_at.Goals as goal
 
