@@ -13,6 +13,7 @@ ghost use Rattle.frame_graph.specs.Laws.{IsLater};
 
 use crate::literals::turned;
 use crate::map::FrameMap;
+use crate::settling::settle;
 use and_graph::{Asker, Graph, Pattern};
 use circ_model::Lit;
 use class_partition::Classes;
@@ -77,8 +78,9 @@ impl<'p> FrameMap<'p> {
     }
 
     /// Whether a needed pair holds in the last frame of the step, assuming what so many places owe, each given by its frame and
-    /// itself: none if so, on each of its paths; or else values of leaves under which it differs there, a hint. Nothing is merged,
-    /// since the two are equal where the classes hold alone.
+    /// itself: none if so, on each of its paths; or else values of leaves under which it differs there, a hint. The two are equal where
+    /// the classes hold alone, and so aren't merged; what is merged are their conjunctions with what is assumed, so that the same
+    /// question is asked once.
     pub fn settle_step_where(
         &self,
         alloc: Global,
@@ -102,9 +104,6 @@ impl<'p> FrameMap<'p> {
         let a = graph.and(assumed, least)?;
         let b = graph.and(assumed, other)?;
         let _grown = graph.len();
-        if graph.same(a, b) {
-            return Ok(None);
-        }
-        graph.difference(alloc, asker, a, b)
+        settle(alloc, graph, asker, a, b)
     }
 }

@@ -30,7 +30,7 @@ fn merge_unless(graph: &mut Graph, a: Lit, b: Lit, found: &Option<Pattern>)
 
 // Whether two literals can differ: none if not, and then they are one from now on; or else values of leaves under which they do.
 #[tactic(auto, using(crate::proofs::Merges::nothing_merged))]
-fn settle(
+pub(crate) fn settle(
     alloc: Global,
     graph: &mut Graph,
     asker: &mut Asker,
