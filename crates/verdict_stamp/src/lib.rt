@@ -3,6 +3,7 @@
 //! Sheeran, Singh, Stålmarck, FMCAD 2000.)
 #![tactic(auto)]
 
+mod constraints;
 mod known;
 mod laws;
 mod opening;

@@ -12,6 +12,7 @@ ghost use Rattle.split_rows.specs.Rows.{AllBroken};
 ghost use Rattle.verdict_stamp.specs.Known.{IsBelow};
 ghost use Rattle.verdict_stamp.specs.Proofs.{IsApart, IsProof, IsSettled, IsSplitOf, IsToldBy, SplitsSome};
 
+use crate::constraints::Constraints;
 use crate::known::Known;
 use crate::vector::Vector;
 use crate::verdict::Verdict;
@@ -56,6 +57,7 @@ pub struct ProverMemory<'p> {
     base: Option<Prepared<'p>>,
     resets: Workspace,
     steps: Workspace,
+    passed: Constraints,
 }
 
 impl<'p> Model for ProverMemory<'p> {
@@ -90,6 +92,7 @@ impl<'p> ProverMemory<'p> {
             base: None,
             resets: Workspace::new(),
             steps: Workspace::new(),
+            passed: Constraints::new(alloc),
         })
     }
 
@@ -113,6 +116,7 @@ impl<'p> ProverMemory<'p> {
             base: None,
             resets,
             steps,
+            passed: Constraints::new(alloc),
         })
     }
 }
@@ -128,6 +132,7 @@ pub struct Prover<'v, 'p> {
     step: Option<Prepared<'p>>,
     resets: Workspace,
     steps: Workspace,
+    passed: Constraints,
     ahead: Ahead,
     // what questions had taken before the version; whether one found a pair apart since rows were last looked for; whether the
     // version is to be left for that; and whether rows waited when they were last looked for: hints
@@ -286,12 +291,14 @@ impl<'v, 'p> Prover<'v, 'p> {
             base,
             resets,
             steps,
+            passed,
         } = memory;
         let Ok(sweep) = Sweep::new(sweep, version.classes()) else {
             drop(rows);
             drop(base);
             drop(resets);
             drop(steps);
+            drop(passed);
             return Err(AllocError);
         };
         let began = sweep.work();
@@ -303,6 +310,7 @@ impl<'v, 'p> Prover<'v, 'p> {
             step: None,
             resets,
             steps,
+            passed,
             ahead: Ahead {
                 frame: 0,
                 member: 0,
@@ -325,6 +333,7 @@ impl<'v, 'p> Prover<'v, 'p> {
             base,
             resets,
             steps,
+            passed,
             ..
         } = self;
         ProverMemory {
@@ -333,6 +342,7 @@ impl<'v, 'p> Prover<'v, 'p> {
             base,
             resets,
             steps,
+            passed,
         }
     }
 
@@ -572,6 +582,26 @@ impl<'v, 'p> Prover<'v, 'p> {
         }
     }
 
+    // A model in which it seems to differ after k frames in which the classes hold, or none where it passes: under the constraints under
+    // which it passed last, or without any.
+    fn step_model(
+        &mut self,
+        alloc: Global,
+        asker: &mut Asker,
+        member: u32,
+    ) -> Result<Option<Vec<FreeBit>>, Halt>
+        requires place { member < places_of self.old.pair }
+        ensures kept { self.new ≡ self.old }
+        ensures passes { IfOk result (λ found. IfNone found (StepPasses (induction_of self.old) member)) }
+        ensures most { asker.new.most ≡ asker.old.most }
+        ensures halt { IfErr result (IsHalted asker.old asker.new) }
+    {
+        if self.passes_again(alloc, asker, member)? {
+            return Ok(None);
+        }
+        self.sweep.step_difference(alloc, asker, member)
+    }
+
     // A vector that has it apart, or none where it passes after k frames in which the classes hold: by the sweep; by rows that a model
     // leads to; and else over whole frames.
     fn step_vector(
@@ -589,7 +619,7 @@ impl<'v, 'p> Prover<'v, 'p> {
         ensures halt { IfErr result (IsHalted asker.old asker.new) }
     {
         let version = self.current;
-        let Some(bits) = self.sweep.step_difference(alloc, asker, pair.member)? else {
+        let Some(bits) = self.step_model(alloc, asker, pair.member)? else {
             return Ok(None);
         };
         if self.passes_where(alloc, asker, pair, bits)? {
@@ -619,7 +649,13 @@ impl<'v, 'p> Prover<'v, 'p> {
         ensures most { asker.new.most ≡ asker.old.most }
     {
         let mut bits = model;
-        let mut owed = Vec::new(alloc);
+        let mut owed = self.constraints_of_any(alloc)?;
+        if owed.len() > 0 {
+            match self.ask_where(alloc, asker, pair.member, owed.as_slice())? {
+                Some(more) => bits = more,
+                None => return Ok(true),
+            }
+        }
         for _ in 0..MODELS {
             let broken = self.run_on(alloc, bits.as_slice())?;
             if broken.len() == 0 {
@@ -664,9 +700,52 @@ impl<'v, 'p> Prover<'v, 'p> {
             Some(bits) => Ok(Some(bits)),
             None => {
                 self.sweep.take_passed(member)?;
+                self.passed.note(member, owed)?;
                 Ok(None)
             }
         }
+    }
+
+    // Whether it passes under the constraints under which it passed last, where there are any.
+    fn passes_again(
+        &mut self,
+        alloc: Global,
+        asker: &mut Asker,
+        member: u32,
+    ) -> Result<bool, AllocError>
+        requires place { member < places_of self.old.pair }
+        ensures kept { self.new ≡ self.old }
+        ensures step { IfOk result (λ passes. IsTrue passes → StepPasses (induction_of self.old) member) }
+        ensures most { asker.new.most ≡ asker.old.most }
+    {
+        let owed = self.constraints_of(alloc, member)?;
+        if owed.len() == 0 {
+            return Ok(false);
+        }
+        let found = self.ask_where(alloc, asker, member, owed.as_slice())?;
+        if found.is_none() {
+            return Ok(true);
+        }
+        self.passed.forget(member)?;
+        Ok(false)
+    }
+
+    // The constraints under which a place's pair passed last.
+    fn constraints_of(&self, alloc: Global, member: u32) -> Result<Vec<(u32, u32)>, AllocError>
+        ensures { IfOk result (λ owed. AllBroken self.now.k (places_of self.now.pair) owed.items) }
+    {
+        let version = self.current;
+        let places = version.classes().len();
+        self.passed.of_place(alloc, member, version.k(), places)
+    }
+
+    // Those under which some pair passed last, where they are few.
+    fn constraints_of_any(&self, alloc: Global) -> Result<Vec<(u32, u32)>, AllocError>
+        ensures { IfOk result (λ owed. AllBroken self.now.k (places_of self.now.pair) owed.items) }
+    {
+        let version = self.current;
+        let places = version.classes().len();
+        self.passed.of_any(alloc, version.k(), places)
     }
 
     /// Settles a needed pair: it holds, or a vector separates it. Rows that simulation found for other pairs, or other versions,
