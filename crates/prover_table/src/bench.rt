@@ -13,6 +13,7 @@ use class_partition::Needed;
 use refine_board::Run;
 use std::alloc::{AllocError, Global};
 use std::marker::Model;
+use std::mem;
 use verdict_stamp::{
     Asker, Halt, Known, Proof, Prover, ProverMemory, Stamp, Vector, Version, Versions,
 };
@@ -70,24 +71,28 @@ impl<'v, 'p> Bench<'v, 'p> {
         })
     }
 
-    /// The bench of a version of the same pair and k: this one, where it is of this version, or else one that goes on with what
-    /// was proved here.
+    /// Whether it is of a stamp's version.
+    pub(crate) fn is_of(&self, versions: &Versions<'p>, stamp: &Stamp<'p>) -> bool
+        requires own { Shows versions.now self.now }
+        requires listed { Shows versions.now stamp.now }
+        ensures { result ≡ true → self.now.value ≡ stamp.now.value }
+    {
+        versions.same(&self.stamp, stamp)
+    }
+
+    /// The bench of another version of the same pair and k, which goes on with what was proved here.
     pub(crate) fn turned_to(
         self,
         alloc: Global,
         versions: &'v Versions<'p>,
         stamp: &Stamp<'p>,
     ) -> Result<Bench<'v, 'p>, AllocError>
-        requires own { Shows versions.now self }
         requires listed { Shows versions.now stamp.now }
         requires pair { self.value.pair ≡ stamp.now.value.pair }
         requires k { self.value.k ≡ stamp.now.value.k }
         ensures listed { IfOk result (λ b. Shows versions.now b) }
         ensures version { IfOk result (λ b. b.value ≡ stamp.now.value) }
     {
-        if versions.same(&self.stamp, stamp) {
-            return Ok(self);
-        }
         let Bench { prover, .. } = self;
         let prover = Prover::over(alloc, prover.into_memory(), versions.at(stamp))?;
         Ok(Bench {
@@ -165,8 +170,8 @@ impl<'v, 'p> Bench<'v, 'p> {
     }
 }
 
-/// The bench of a version: the one that there is, turned to it, or a new one, which takes up what was proved before.
-pub(crate) fn bench_for<'v, 'p, L: Run>(
+// The bench of a version: the one that there is, turned to it, or a new one, which takes up what was proved before.
+fn bench_for<'v, 'p, L: Run>(
     alloc: Global,
     lent: &Lent<'v, 'p, L>,
     old: Option<Bench<'v, 'p>>,
@@ -184,4 +189,45 @@ pub(crate) fn bench_for<'v, 'p, L: Run>(
         Some(bench) => bench.turned_to(alloc, lent.versions, stamp),
         None => Bench::new(alloc, memory.take(), lent.versions, stamp),
     }
+}
+
+// Whether there is a bench of a stamp's version.
+fn is_at<'p, L: Run>(
+    lent: &Lent<'_, 'p, L>,
+    bench: &Option<Bench<'_, 'p>>,
+    stamp: &Stamp<'p>,
+) -> bool
+    requires bench { IfSome bench.now (IsBenchOf L.list L.pair L.k) }
+    requires listed { IsBenchOf L.list L.pair L.k stamp.now }
+    ensures some { result ≡ true → is_some bench.now ≡ true }
+    ensures version { result ≡ true → IfSome bench.now (λ b. b.value ≡ stamp.now.value) }
+{
+    match bench {
+        Some(bench) => bench.is_of(lent.versions, stamp),
+        None => false,
+    }
+}
+
+/// Has the bench be of a version: where it is already, nothing moves.
+pub(crate) fn turn<'v, 'p, L: Run>(
+    alloc: Global,
+    lent: &Lent<'v, 'p, L>,
+    bench: &mut Option<Bench<'v, 'p>>,
+    memory: &mut Option<ProverMemory<'p>>,
+    stamp: &Stamp<'p>,
+) -> Result<(), AllocError>
+    requires bench { IfSome bench.old (IsBenchOf L.list L.pair L.k) }
+    requires memory { IfSome memory.old (IsMemoryFor L.pair L.k) }
+    requires listed { IsBenchOf L.list L.pair L.k stamp.now }
+    ensures memory { IfSome memory.new (IsMemoryFor L.pair L.k) }
+    ensures bench { IfSome bench.new (IsBenchOf L.list L.pair L.k) }
+    ensures some { OnOk result (is_some bench.new ≡ true) }
+    ensures version { OnOk result (IfSome bench.new (λ b. b.value ≡ stamp.now.value)) }
+{
+    if is_at(lent, bench, stamp) {
+        return Ok(());
+    }
+    let turned = bench_for(alloc, lent, bench.take(), memory, stamp)?;
+    drop(mem::replace(bench, Some(turned)));
+    Ok(())
 }

@@ -6,12 +6,11 @@ ghost use Rattle.and_graph.specs.Askers.{IsHalted, IsTaken};
 ghost use Rattle.and_graph.specs.declared.halt.Halt.TheVariants.{Posed};
 ghost use Rattle.prover_table.specs.Tables.{IsBenchOf, IsFoundFor, IsMemoryFor};
 
-use crate::bench::{Bench, bench_for};
+use crate::bench::{Bench, turn};
 use crate::lent::Lent;
 use refine_board::{Offer, Run};
 use std::alloc::{AllocError, Global};
 use std::marker::{Model, PhantomData};
-use std::mem;
 use verdict_stamp::{Asker, Halt, Proof, ProverMemory};
 
 // So many workers a run has at most.
@@ -82,11 +81,14 @@ impl<'v, 'p, L: Run> Table<'v, 'p, L> {
         ensures aside { IfErr result (λ h. h ≡ Posed → self.new.bench ≡ true) }
     {
         self.note(offer.party(), None);
-        let bench = self.bench.take();
-        let mut at = bench_for(alloc, lent, bench, &mut self.memory, offer.stamp())?;
-        let found = find_at(alloc, lent, &mut at, asker, offer);
-        self.due = at.is_due();
-        drop(mem::replace(&mut self.bench, Some(at)));
+        turn(
+            alloc,
+            lent,
+            &mut self.bench,
+            &mut self.memory,
+            offer.stamp(),
+        )?;
+        let found = find(alloc, lent, &mut self.bench, asker, offer, &mut self.due);
         self.note(offer.party(), unsettled(offer, &found));
         found
     }
@@ -200,4 +202,26 @@ fn find_at<'v, 'p, L: Run>(
         return Ok(Proof::Splits(vector));
     }
     bench.settle(alloc, asker, offer.pair(), lent.known)
+}
+
+// The same at the bench, which there is. Says whether what workers hold is better handed in at once.
+fn find<'v, 'p, L: Run>(
+    alloc: Global,
+    lent: &Lent<'v, 'p, L>,
+    bench: &mut Option<Bench<'v, 'p>>,
+    asker: &mut Asker,
+    offer: &Offer<'p, L>,
+    due: &mut bool,
+) -> Result<Proof<'v, 'p>, Halt>
+    requires some { is_some bench.old ≡ true }
+    requires version { IfSome bench.old (λ b. b.value ≡ offer.now.stamp.value) }
+    ensures bench { bench.new ≡ bench.old }
+    ensures found { IfOk result (IsFoundFor L.pair L.k offer.now) }
+    ensures most { asker.new.most ≡ asker.old.most }
+    ensures halt { IfErr result (IsHalted asker.old asker.new) }
+{
+    let Some(at) = bench else { unreachable!() };
+    let found = find_at(alloc, lent, at, asker, offer);
+    *due = at.is_due();
+    found
 }
