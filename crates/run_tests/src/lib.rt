@@ -13,8 +13,6 @@ mod devices;
 #[cfg(test)]
 mod hostile;
 #[cfg(test)]
-mod plain;
-#[cfg(test)]
 mod reduces;
 #[cfg(test)]
 mod runs;

@@ -1,7 +1,6 @@
 //! Whole runs over shelves and sinks in memory.
 ghost use Rattle.std.specs.Prelude.{◌≢◌};
 
-use crate::plain::{few_free_bits, plain_classes};
 use aiger_file::read_netlist;
 use class_partition::Classes;
 use meeting_gate::Meeting;
@@ -12,6 +11,7 @@ use std::alloc::{AllocError, Global};
 use std::sync::Wait;
 use std::test::Fail;
 use std::thread::Threads;
+use tried_classes::{few_free_bits, plain_classes};
 use verdict_stamp::greatest_classes;
 
 // What a run over two netlists and a trace answers.
