@@ -1,7 +1,7 @@
 //! The classes of the greatest correspondence for k = 1, found plainly, to compare with: one class by phases is split by the first row of
 //! every run and by the second row of every path in whose first row the classes hold, until nothing splits. Every path of
 //! two rows is tried, so this is for pairs with few latches and inputs.
-ghost use Rattle.std.specs.Prelude.{◌≡◌, ◌==◌, ◌<◌, ◌≤◌, ◌+◌, ◌-◌, ◌*◌, ◌/◌, ◌^◌, ◌↔◌, ℕ, List, Bool, IsTrue, IfOk, IfSome, length, map};
+ghost use Rattle.std.specs.Prelude.{◌≡◌, ◌==◌, ◌<◌, ◌≤◌, ◌+◌, ◌-◌, ◌*◌, ◌/◌, ◌^◌, ◌↔◌, ℕ, List, Bool, IsTrue, IfNone, IfOk, IfSome, length, map};
 ghost use Rattle.std.specs.Int.{bit_at};
 ghost use Rattle.circ_model.specs.Meaning.{Pair, MayStartAt, bit, latches_of, places_of, resets, row_at};
 ghost use Rattle.circ_model.specs.Runs.{first_bit, phases};
@@ -248,7 +248,8 @@ fn first_classes(alloc: Global, product: &Product) -> Result<Classes, AllocError
     Ok(classes)
 }
 
-/// The classes of the greatest correspondence for k = 1. `bits` is the number of bits that decide a path of two rows.
+/// The classes of the greatest correspondence for k = 1. `bits` is the number of bits that decide a path of two rows. It errs for want
+/// of memory alone.
 pub fn plain_classes(alloc: Global, product: &Product, bits: u32) -> Result<Classes, AllocError>
     requires bits { bits ≡ free_bits product.now }
     requires few { bits ≤ 16 }
@@ -282,7 +283,8 @@ fn refine(frames: &mut Frames, product: &Product, bits: u32, classes: &mut Class
 
 /// How many bits decide a path of two rows, or none where they are more than 16.
 pub fn few_free_bits(product: &Product) -> Option<u32>
-    ensures { IfSome result (λ bits. (bits ≡ free_bits product.now) × (bits ≤ 16)) }
+    ensures some { IfSome result (λ bits. (bits ≡ free_bits product.now) × (bits ≤ 16)) }
+    ensures none { IfNone result (16 < free_bits product.now) }
 {
     let _places = product.len();
     let bits = product.latches() + 2 * product.inputs();
