@@ -4,3 +4,4 @@ pub mod Valuations
 pub mod Pure
 pub mod Learning
 pub mod Questions
+pub mod Parity

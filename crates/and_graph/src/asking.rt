@@ -17,6 +17,7 @@ use crate::lemmas::Lemmas;
 use crate::node::Node;
 use crate::pattern::{Pattern, pattern_of};
 use crate::posed::{Differing, MOST_LINES, Posed};
+use crate::sums::Sum;
 use circ_model::Lit;
 use sat_core::Answer;
 use std::alloc::{AllocError, Global};
@@ -33,6 +34,7 @@ pub struct Asker {
     cone: Cone,
     clause: Vec<i32>,
     solver: ConeSolver,
+    sum: Sum,
     // a question over a cone of more nodes may be put aside, where refutations of late had so many lines and more
     most: Option<u32>,
     hard: u64,
@@ -78,6 +80,7 @@ impl Asker {
             cone: Cone::new(alloc)?,
             clause: Vec::new(alloc),
             solver: ConeSolver::new(alloc)?,
+            sum: Sum::new(alloc),
             most,
             hard,
             posed: None,
@@ -126,9 +129,12 @@ impl Asker {
     {
         self.posed = None;
         drop(self.answer.take());
+        let is_whole = most == u32::MAX;
+        if is_whole && self.sum.are_equal(nodes, x, y)? {
+            return Ok(None);
+        }
         let cone = &mut self.cone;
         let given = cone.pose(nodes, lemmas, x, y, most, &mut self.clause)?;
-        let is_whole = most == u32::MAX;
         let answer = self
             .solver
             .decide_on(alloc, cone, is_whole, &mut lemmas.activity)?;
@@ -157,6 +163,9 @@ impl Asker {
     {
         self.posed = None;
         drop(self.answer.take()); // it was another cone's
+        if self.sum.are_equal(nodes, x, y)? {
+            return Ok(None);
+        }
         let cone = &mut self.cone;
         let given = cone.pose(nodes, lemmas, x, y, u32::MAX, &mut self.clause)?;
         let mut is_large = false;

@@ -26,6 +26,7 @@ mod node;
 mod pattern;
 mod posed;
 mod recall;
+mod sums;
 
 pub use asking::Asker;
 pub use graph::Graph;

@@ -174,10 +174,11 @@ fn a_large_question_is_answered_while_none_was_hard(rt: HostRuntime) -> Result<(
 // So many leaves have a parity whose gates no window holds, and two orders of it share none.
 const BITS: u32 = 10;
 
-// The parity of two literals that a graph has.
+// The parity of two literals that a graph has, by four products, from which it isn't seen that it is a sum.
 fn parity(graph: &mut Graph, a: Lit, b: Lit) -> Result<Lit, AllocError> {
-    let left = product(graph, a, b.not())?;
-    let right = product(graph, a.not(), b)?;
+    let both = product(graph, a, b)?;
+    let left = product(graph, a, both.not())?;
+    let right = product(graph, b, both.not())?;
     Ok(product(graph, left.not(), right.not())?.not())
 }
 
@@ -296,5 +297,41 @@ fn products_rest_on_what_is_near(alloc: Global) -> Result<bool, AllocError> {
 #[test]
 fn a_question_rests_on_what_is_near(rt: HostRuntime) -> Result<(), Fail> {
     assert!(rt; products_rest_on_what_is_near(rt.alloc())?);
+    Ok(())
+}
+
+// The sum modulo 2 of two literals that a graph has, by three products.
+fn sum(graph: &mut Graph, a: Lit, b: Lit) -> Result<Lit, AllocError> {
+    let left = product(graph, a, b.not())?;
+    let right = product(graph, a.not(), b)?;
+    Ok(product(graph, left.not(), right.not())?.not())
+}
+
+// The sum of all leaves, from one of them on, upwards and then around.
+fn sum_from(graph: &mut Graph, first: u32) -> Result<Lit, AllocError> {
+    let mut all = Lit::of(0, false);
+    for n in 0..LEAVES {
+        let leaf = 1 + (first % LEAVES + n) % LEAVES;
+        all = sum(graph, all, Lit::of(leaf, false))?;
+    }
+    Ok(all)
+}
+
+// Whether two orders of a sum are found equal at once by an asker that puts large questions aside, but not the sum and its complement, nor
+// the sum and that of all leaves but one.
+fn sums_are_one(alloc: Global) -> Result<bool, AllocError> {
+    let mut graph = graph_of_leaves(alloc)?;
+    let first = sum_from(&mut graph, 0)?;
+    let second = sum_from(&mut graph, 13)?;
+    let less = sum(&mut graph, second, Lit::of(5, false))?;
+    let mut asker = Asker::posing(alloc, 2, 0)?;
+    let one = is_equal(alloc, &mut graph, &mut asker, first, second);
+    let complement = is_equal(alloc, &mut graph, &mut asker, first, second.not());
+    Ok(one && !complement && !is_equal(alloc, &mut graph, &mut asker, first, less))
+}
+
+#[test]
+fn two_orders_of_a_sum_are_found_equal_at_once(rt: HostRuntime) -> Result<(), Fail> {
+    assert!(rt; sums_are_one(rt.alloc())?);
     Ok(())
 }

@@ -13,7 +13,7 @@ use step_lanes::LaneRows;
 const MOST: u32 = 1024;
 
 // Each step of so many frames has to add a part.
-const STEP: u32 = 16;
+const STEP: u32 = 32;
 
 // A reset of all runs, whose free latches are drawn.
 fn draw_reset(

@@ -10,7 +10,7 @@ use product_machine::{Cell, Product, Start};
 use std::alloc::{AllocError, Global};
 
 // So many places that break the classes are told of a model at most.
-const MOST: usize = 16;
+const MOST: usize = 64;
 
 // Half of the lanes.
 const LOW: u64 = 0xffff_ffff;

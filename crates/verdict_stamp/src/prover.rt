@@ -27,7 +27,7 @@ use std::alloc::{AllocError, Global};
 use std::marker::Model;
 
 // So many models of a pair are run on at most.
-const MODELS: u32 = 16;
+const MODELS: u32 = 64;
 
 // Another version takes as much as questions over one node for each so many places.
 const TURN: u32 = 32;
