@@ -26,12 +26,26 @@ fn product(graph: &mut Graph, a: Lit, b: Lit) -> Result<Lit, AllocError> {
     graph.and(a, b)
 }
 
-// The product of all leaves, from one of them on, upwards and then around.
-fn product_from(graph: &mut Graph, first: u32) -> Result<Lit, AllocError> {
-    let mut all = Lit::of(0, true);
+// What leaves are taken together by.
+#[derive(Clone, Copy)]
+enum Fold {
+    Product,
+    // modulo 2
+    Sum,
+}
+
+// The product or the sum of all leaves, from one of them on, upwards and then around.
+fn folded_from(graph: &mut Graph, fold: Fold, first: u32) -> Result<Lit, AllocError> {
+    let mut all = match fold {
+        Fold::Product => Lit::of(0, true),
+        Fold::Sum => Lit::of(0, false),
+    };
     for n in 0..LEAVES {
-        let leaf = 1 + (first % LEAVES + n) % LEAVES;
-        all = product(graph, all, Lit::of(leaf, false))?;
+        let leaf = Lit::of(1 + (first % LEAVES + n) % LEAVES, false);
+        all = match fold {
+            Fold::Product => product(graph, all, leaf)?,
+            Fold::Sum => sum(graph, all, leaf)?,
+        };
     }
     Ok(all)
 }
@@ -40,7 +54,7 @@ fn product_from(graph: &mut Graph, first: u32) -> Result<Lit, AllocError> {
 fn products(graph: &mut Graph) -> Result<[Lit; 3], AllocError> {
     let mut all = [Lit::of(0, true); 3];
     for i in 0..3 {
-        all[i] = product_from(graph, 13 * i as u32)?;
+        all[i] = folded_from(graph, Fold::Product, 13 * i as u32)?;
     }
     Ok(all)
 }
@@ -307,22 +321,12 @@ fn sum(graph: &mut Graph, a: Lit, b: Lit) -> Result<Lit, AllocError> {
     Ok(product(graph, left.not(), right.not())?.not())
 }
 
-// The sum of all leaves, from one of them on, upwards and then around.
-fn sum_from(graph: &mut Graph, first: u32) -> Result<Lit, AllocError> {
-    let mut all = Lit::of(0, false);
-    for n in 0..LEAVES {
-        let leaf = 1 + (first % LEAVES + n) % LEAVES;
-        all = sum(graph, all, Lit::of(leaf, false))?;
-    }
-    Ok(all)
-}
-
 // Whether two orders of a sum are found equal at once by an asker that puts large questions aside, but not the sum and its complement, nor
 // the sum and that of all leaves but one.
 fn sums_are_one(alloc: Global) -> Result<bool, AllocError> {
     let mut graph = graph_of_leaves(alloc)?;
-    let first = sum_from(&mut graph, 0)?;
-    let second = sum_from(&mut graph, 13)?;
+    let first = folded_from(&mut graph, Fold::Sum, 0)?;
+    let second = folded_from(&mut graph, Fold::Sum, 13)?;
     let less = sum(&mut graph, second, Lit::of(5, false))?;
     let mut asker = Asker::posing(alloc, 2, 0)?;
     let one = is_equal(alloc, &mut graph, &mut asker, first, second);
