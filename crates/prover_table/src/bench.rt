@@ -18,11 +18,11 @@ use verdict_stamp::{
     Asker, Halt, Known, Proof, Prover, ProverMemory, Stamp, Vector, Version, Versions,
 };
 
-/// The frames of a version, and its stamp. The prover lies in a place of its own: it has many parts, and a bench is moved about.
+/// The frames of a version, and its stamp.
 #[derive(Drop)]
 pub(crate) struct Bench<'v, 'p> {
     stamp: Stamp<'p>,
-    prover: Box<Prover<'v, 'p>>,
+    prover: Prover<'v, 'p>,
 }
 
 impl<'v, 'p> Model for Bench<'v, 'p> {
@@ -33,7 +33,7 @@ impl<'v, 'p> Model for Bench<'v, 'p> {
 
     ghost view = { λ b. b.stamp };
 
-    ghost invariant = { λ b. b.stamp.value ≡ b.prover.value };
+    ghost invariant = { λ b. b.stamp.value ≡ b.prover };
 }
 
 // The frames of a version, which go on with what was proved before where something was.
@@ -67,7 +67,7 @@ impl<'v, 'p> Bench<'v, 'p> {
         let prover = prover_of(alloc, memory, versions.at(stamp))?;
         Ok(Bench {
             stamp: stamp.copy(),
-            prover: Box::new(alloc, prover)?,
+            prover,
         })
     }
 
@@ -94,11 +94,10 @@ impl<'v, 'p> Bench<'v, 'p> {
         ensures version { IfOk result (λ b. b.value ≡ stamp.now.value) }
     {
         let Bench { prover, .. } = self;
-        let memory = Box::into_inner(prover).into_memory();
-        let prover = Prover::over(alloc, memory, versions.at(stamp))?;
+        let prover = Prover::over(alloc, prover.into_memory(), versions.at(stamp))?;
         Ok(Bench {
             stamp: stamp.copy(),
-            prover: Box::new(alloc, prover)?,
+            prover,
         })
     }
 
@@ -107,7 +106,7 @@ impl<'v, 'p> Bench<'v, 'p> {
         ensures { IsMemoryFor self.entry.value.pair self.entry.value.k result }
     {
         let Bench { prover, .. } = self;
-        Box::into_inner(prover).into_memory()
+        prover.into_memory()
     }
 
     /// A vector of a row that waits, where there is one.
@@ -123,14 +122,14 @@ impl<'v, 'p> Bench<'v, 'p> {
         ensures most { asker.new.most ≡ asker.old.most }
         ensures halt { IfErr result (IsHalted asker.old asker.new) }
     {
-        self.prover.as_mut().next_waiting(alloc, asker, known)
+        self.prover.next_waiting(alloc, asker, known)
     }
 
     /// Whether what was found apart is better handed in at once. A hint.
     pub(crate) fn is_due(&mut self) -> bool
         ensures { self.new ≡ self.old }
     {
-        self.prover.as_mut().is_due()
+        self.prover.is_due()
     }
 
     /// Settles a pair of its version: unasked, where the classes of an earlier k are known and pair it.
@@ -150,8 +149,8 @@ impl<'v, 'p> Bench<'v, 'p> {
         ensures halt { IfErr result (IsHalted asker.old asker.new) }
     {
         match known {
-            Some(known) => self.prover.as_mut().settle_known(alloc, asker, pair, known),
-            None => self.prover.as_mut().settle(alloc, asker, pair),
+            Some(known) => self.prover.settle_known(alloc, asker, pair, known),
+            None => self.prover.settle(alloc, asker, pair),
         }
     }
 
@@ -159,7 +158,7 @@ impl<'v, 'p> Bench<'v, 'p> {
     pub(crate) fn rests_on(&self, asker: &Asker, member: u32) -> bool
         ensures { IsTrue result → is_some asker.now.aside ≡ true }
     {
-        self.prover.as_ref().rests_on(asker, member)
+        self.prover.rests_on(asker, member)
     }
 
     /// Takes in the answer to the question that the asker had put aside.
@@ -167,7 +166,7 @@ impl<'v, 'p> Bench<'v, 'p> {
         ensures kept { self.new ≡ self.old }
         ensures taken { OnOk result (IsTaken asker.old asker.new) }
     {
-        self.prover.as_mut().take_answer(alloc, asker)
+        self.prover.take_answer(alloc, asker)
     }
 }
 
