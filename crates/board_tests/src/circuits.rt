@@ -41,6 +41,16 @@ pub(crate) const RARE: &str =
 pub(crate) const NEVER: &str =
     "aag 20 20 0 1 0\n2\n4\n6\n8\n10\n12\n14\n16\n18\n20\n22\n24\n26\n28\n30\n32\n34\n36\n38\n40\n0\n";
 
+// Two inputs, their product twice, and the product of their complements; and their product once, and its complement.
+pub(crate) const PRODUCT_TWICE: &str = "aag 5 2 0 2 3\n2\n4\n6\n8\n6 2 4\n8 4 2\n10 3 5\n";
+
+pub(crate) const PRODUCT_AND_COMPLEMENT: &str = "aag 4 2 0 2 2\n2\n4\n6\n9\n6 4 2\n8 7 1\n";
+
+// The product of an input and its complement, and the input.
+pub(crate) const CONTRADICTION: &str = "aag 2 1 0 1 1\n2\n4\n4 2 3\n";
+
+pub(crate) const WIRE: &str = "aag 1 1 0 1 0\n2\n2\n";
+
 pub(crate) fn pair_of(alloc: Global, left: &str, right: &str) -> Result<Product, PairFault> {
     match (
         read_netlist(alloc, left.as_bytes()),

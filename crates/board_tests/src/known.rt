@@ -1,14 +1,16 @@
-//! What is known from induction over fewer frames: its pairs stay counted while the classes split.
+//! What is known from induction over fewer frames, or by structural hashing: its pairs stay counted while the classes split.
 ghost use Rattle.std.specs.Prelude.{◌≤◌, ◌+◌, ◌<◌};
 
 use crate::boards::{EntryRow, Players, Work, answer, ask, begins_so, played};
-use crate::circuits::{STUCK, pair_of};
+use crate::circuits::{
+    CONTRADICTION, PRODUCT_AND_COMPLEMENT, PRODUCT_TWICE, STUCK, TOGGLE, WIRE, pair_of,
+};
 use product_machine::Product;
 use refine_board::{Board, Run};
 use std::alloc::{AllocError, Global};
 use std::sync::Wait;
 use std::test::Fail;
-use verdict_stamp::{Known, Verdict, greatest_classes};
+use verdict_stamp::{Known, Verdict, Version, greatest_classes};
 
 // Answers an offer by what is known of its pair, or gives it back where nothing is.
 fn answer_known<'v, 'p, L: Run>(
@@ -80,6 +82,61 @@ fn a_known_pair_stays_counted_when_the_classes_split(rt: HostRuntime) -> Result<
     match pair_of(alloc, STUCK, STUCK) {
         Ok(product) => assert!(rt; stays_counted(&rt, alloc, &product)?),
         Err(_) => assert!(rt; false),
+    }
+    Ok(())
+}
+
+// Two netlists, and by place the least place that is equal to it in every state, up to complement.
+type TwinRow = (&'static str, &'static str, &'static [u32]);
+
+const TWINS: &[TwinRow] = &[
+    (
+        PRODUCT_TWICE,
+        PRODUCT_AND_COMPLEMENT,
+        &[0, 1, 2, 3, 3, 5, 3, 3],
+    ),
+    (CONTRADICTION, WIRE, &[0, 1, 0]),
+    (TOGGLE, TOGGLE, &[0, 1, 2]),
+];
+
+// Whether these are the least places of known classes.
+fn are_least(known: &Known<'_>, least: &[u32]) -> bool {
+    let classes = known.classes();
+    if classes.len() as usize != least.len() {
+        return false;
+    }
+    for place in 0..classes.len() {
+        if classes.rep(place) != least[place as usize] {
+            return false;
+        }
+    }
+    true
+}
+
+// Whether hashing shows a pair's places to be equal to these.
+fn has_twins(alloc: Global, product: &Product, least: &[u32]) -> Result<bool, AllocError> {
+    let first = Version::first(alloc, product, 1)?;
+    let found = Known::twins(alloc, product, first.classes());
+    drop(first);
+    match found? {
+        Some(known) => Ok(are_least(&known, least)),
+        None => Ok(false),
+    }
+}
+
+// The same of two netlists.
+fn shows_twins(alloc: Global, row: &TwinRow) -> bool {
+    match pair_of(alloc, row.0, row.1) {
+        Ok(product) => has_twins(alloc, &product, row.2) == Ok(true),
+        Err(_) => false,
+    }
+}
+
+#[test]
+fn hashing_finds_what_stands_twice(rt: HostRuntime) -> Result<(), Fail> {
+    let alloc = rt.alloc();
+    for row in TWINS {
+        assert!(rt; shows_twins(alloc, row));
     }
     Ok(())
 }

@@ -4,7 +4,7 @@ use Rattle.circ_model.specs.Meaning.{Pair}
 use Rattle.boxcar.specs.Table.{Shelves, Shows}
 use Rattle.pair_sweep.specs.Sweeps.{Extent}
 use Rattle.verdict_stamp.specs.Published.{Stamped}
-use Rattle.verdict_stamp.specs.Known.{Refined}
+use Rattle.verdict_stamp.specs.Known.{KnownClasses}
 use Rattle.verdict_stamp.specs.declared.prover.Proof.{Proof}
 use Rattle.verdict_stamp.specs.declared.prover.Proof.TheVariants.{Holds, Splits}
 use Rattle.refine_board.specs.Running.{IsAbout, IsOf, Owed}
@@ -19,7 +19,7 @@ abbrev pub IsBenchOf : Shelves → Pair → ℕ → Stamped → Type 0
 IsBenchOf list pair k bench = Shows list bench × (bench.value.pair ≡ pair) × (bench.value.k ≡ k)
 
 -- known classes of the pair, for as many frames or fewer
-abbrev pub IsKnownFor : Pair → ℕ → Refined → Type 0
+abbrev pub IsKnownFor : Pair → ℕ → KnownClasses → Type 0
 IsKnownFor pair k n = (n.pair ≡ pair) × (n.k ≤ k)
 
 -- what proofs of the pair leave to others, for this very number of frames

@@ -3,7 +3,7 @@ use Rattle.std.proofs.Common.{◌≡◌, ◌<◌, ◌≤◌, ◌+◌, ◌==◌, 
 use Rattle.circ_model.specs.Meaning.{Pair}
 use Rattle.circ_model.specs.Verdict.{AgreeBelow, Verdict, Equivalent, Different, Undecided}
 use Rattle.pair_sweep.specs.Sweeps.{Extent}
-use Rattle.verdict_stamp.specs.Known.{Refined}
+use Rattle.verdict_stamp.specs.Known.{KnownClasses}
 use Rattle.verdict_stamp.specs.Versions.{Standing}
 use Rattle.prover_table.specs.Tables.{IsKnownFor, IsMemoryFor}
 use Rattle.refine_board.specs.Running.{Written}
@@ -103,7 +103,7 @@ agree_at pair c a (Equivalent n, is, status, text) two = absurd (omega (arith, s
 agree_at pair c a (Different t j, is, status, text) two = absurd (omega (arith, status, two))
 agree_at pair c a (Undecided n u, is, status, text) two = is.0
 
-for_more : (pair : Pair) (k : ℕ) (version : Standing) (o : Option Refined) → version.pair ≡ pair → version.k ≡ k → IfSome o (λ n. (n.pair ≡ version.pair) × (n.k ≡ version.k)) → IfSome o (IsKnownFor pair (k + 1))
+for_more : (pair : Pair) (k : ℕ) (version : Standing) (o : Option KnownClasses) → version.pair ≡ pair → version.k ≡ k → IfSome o (λ n. (n.pair ≡ version.pair) × (n.k ≡ version.k)) → IfSome o (IsKnownFor pair (k + 1))
 for_more pair k version None same at h = h
 for_more pair k version (Some n) same at h = (h.0 ∙ same, omega (arith, h.1, at))
 

@@ -4,7 +4,7 @@ ghost use Rattle.refine_board.specs.Schedules.{opened};
 ghost use Rattle.prover_table.specs.Tables.{IsKnownFor, IsMemoryFor};
 ghost use Rattle.work_desk.specs.Seats.{HasEnded};
 ghost use Rattle.work_desk.specs.Desks.{IsOutcome};
-ghost use Rattle.split_workers.specs.Refined.{IsEarlierFor, IsRefined};
+ghost use Rattle.split_workers.specs.Refined.{IsEarlierFor, IsOpening, IsRefined};
 ghost use Rattle.split_workers.specs.Reports.{AreReports};
 
 use crate::earlier::Earlier;
@@ -124,6 +124,62 @@ pub struct Task<'p> {
     pub workers: u32,
 }
 
+// A run from its first version on. It goes on with what was proved before, and leaves what was proved.
+fn refine_from<'p, R: Threads + Wait + Sync, G: Gate>(
+    rt: &R,
+    alloc: Global,
+    first: Version<'p>,
+    workers: u32,
+    known: Option<&Known<'p>>,
+    memory: &mut Option<ProverMemory<'p>>,
+    gate: &G,
+) -> Result<Refined<'p>, AllocError>
+    requires first { IsOpening first.pair first.k first }
+    requires workers { (0 < workers) × (workers ≤ 64) }
+    requires earlier { IfSome known (λ n. IsKnownFor first.pair first.k n.now) }
+    requires memory { IfSome memory.old (IsMemoryFor first.pair first.k) }
+    ensures refined { IfOk result (λ r. IsRefined first.entry.pair first.entry.k workers r.version r.journal.entries) }
+    ensures reports { IfOk result (λ r. AreReports workers r.journal.entries r.reports.items) }
+    ensures memory { IfSome memory.new (IsMemoryFor first.entry.pair first.entry.k) }
+{
+    let Ok(versions) = Versions::new(alloc) else {
+        drop(first);
+        return Err(AllocError);
+    };
+    refine_named::<Brand, Brand, Brand, R, G>(
+        rt,
+        alloc,
+        Blanks {
+            offers: Blank::new(1 << 62),
+            ends: Blank::new(workers as u64),
+            owed: Blank::new(workers as u64 * 2),
+        },
+        Beginning {
+            versions: &versions,
+            first,
+            known,
+            workers,
+        },
+        memory,
+        gate,
+    )
+}
+
+// What is known before a run where nothing earlier is: which places are equal in every state.
+fn twins_of<'p>(
+    alloc: Global,
+    first: &Version<'p>,
+    known: Option<&Known<'p>>,
+) -> Result<Option<Known<'p>>, AllocError>
+    requires some { 0 < first.now.k }
+    ensures { IfOk result (λ twins. IfSome twins (IsKnownFor first.now.pair first.now.k)) }
+{
+    if known.is_some() {
+        return Ok(None);
+    }
+    Known::twins(alloc, first.product(), first.classes())
+}
+
 // A run from its opening on. It goes on with what was proved before, and leaves what was proved.
 fn refine_with<'p, R: Threads + Wait + Sync, G: Gate>(
     rt: &R,
@@ -148,24 +204,21 @@ fn refine_with<'p, R: Threads + Wait + Sync, G: Gate>(
         workers,
     } = task;
     let first = Version::opening(alloc, product, k)?;
-    let versions = Versions::new(alloc)?;
-    refine_named::<Brand, Brand, Brand, R, G>(
+    let Ok(twins) = twins_of(alloc, &first, known) else {
+        drop(first);
+        return Err(AllocError);
+    };
+    let refined = refine_from(
         rt,
         alloc,
-        Blanks {
-            offers: Blank::new(1 << 62),
-            ends: Blank::new(workers as u64),
-            owed: Blank::new(workers as u64 * 2),
-        },
-        Beginning {
-            versions: &versions,
-            first,
-            known,
-            workers,
-        },
+        first,
+        workers,
+        known.or(twins.as_ref()),
         memory,
         gate,
-    )
+    );
+    drop(twins);
+    refined
 }
 
 /// The classes of the greatest correspondence for induction over k frames, by so many workers, and the journal of their run.

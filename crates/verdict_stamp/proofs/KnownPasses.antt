@@ -7,7 +7,7 @@ use Rattle.circ_model.proofs.Literals.{half_literal}
 use Rattle.class_partition.specs.Classes.{Classes, ArePartition, IsNeeded, KeepsGreatest, Pairs, Passes, least_of, needed, phase_of}
 use Rattle.class_partition.proofs.Partition.{may_split_after}
 use Rattle.verdict_stamp.specs.declared.used.Used.TheVariants.{Known}
-use Rattle.verdict_stamp.specs.Known.{ArePaired, IsBelow, IsRefined, Refined, known_of}
+use Rattle.verdict_stamp.specs.Known.{AreKnown, ArePaired, IsBelow, KnownClasses, known_of}
 use Rattle.verdict_stamp.specs.Versions.{IsKnown, IsPassed, IsVersion, Standing}
 
 -- n frames more, one by one
@@ -40,19 +40,19 @@ literals_within places classes m is lt =
     )
 
 -- so known classes that pair them tell that the pair passes
-pub known_is : (known : Refined) (v : Standing) (m : ℕ) → IsRefined known → IsVersion v → IsBelow known v → IsNeeded (places_of v.pair) v.classes m → ArePaired known v m → IsPassed (known_of known v m)
-known_is known v m refined is below need paired =
+pub known_is : (known : KnownClasses) (v : Standing) (m : ℕ) → AreKnown known → IsVersion v → IsBelow known v → IsNeeded (places_of v.pair) v.classes m → ArePaired known v m → IsPassed (known_of known v m)
+known_is known v m are is below need paired =
     let within = literals_within (places_of v.pair) v.classes m is.partition need.0 in
-    let there : IsKnown v.pair known.k v.classes m = subst (λ (p : Pair). IsKnown p known.k v.classes m) below.0 (refined.greatest.reaches (needed v.classes m).0 (needed v.classes m).1
+    let there : IsKnown v.pair known.k v.classes m = subst (λ (p : Pair). IsKnown p known.k v.classes m) below.0 (are.correspond (needed v.classes m).0 (needed v.classes m).1
     (subst (λ (p : Pair). (needed v.classes m).0 / 2 < places_of p) (sym below.0) within.0) (subst (λ (p : Pair). (needed v.classes m).1 / 2 < places_of p) (sym below.0) within.1) paired) in
     record {
       is_needed = need;
       passes = known_passes v.pair known.k v.k v.classes m below.1 is.keeps there;
-      known = λ j e. subst (λ (n : ℕ). (0 < n) × (n ≤ v.k) × IsKnown v.pair n v.classes m) (same_known known.k j e) (refined.some, below.1, there);
+      known = λ j e. subst (λ (n : ℕ). (0 < n) × (n ≤ v.k) × IsKnown v.pair n v.classes m) (same_known known.k j e) (are.some, below.1, there);
     }
 
 -- the answer says so of the two literals
-pub paired_by : (known : Refined) (v : Standing) (m : ℕ) (classes : Classes) (lits : ℕ × ℕ) (found : Bool) → classes ≡ known.classes → lits ≡ needed v.classes m → found ≡ true → (IsTrue found ↔ Pairs classes lits.0 lits.1)
+pub paired_by : (known : KnownClasses) (v : Standing) (m : ℕ) (classes : Classes) (lits : ℕ × ℕ) (found : Bool) → classes ≡ known.classes → lits ≡ needed v.classes m → found ≡ true → (IsTrue found ↔ Pairs classes lits.0 lits.1)
     → ArePaired known v m
 paired_by known v m classes lits found ec el ef says =
     subst (λ (c : Classes). Pairs c (needed v.classes m).0 (needed v.classes m).1) ec

@@ -7,7 +7,7 @@ use Rattle.split_rows.specs.Rows.{SeparatesSome}
 use Rattle.verdict_stamp.specs.declared.prover.Proof.{Proof}
 use Rattle.verdict_stamp.specs.declared.used.Used.TheVariants.{Version}
 use Rattle.verdict_stamp.specs.declared.prover.Proof.TheVariants.{Holds, Splits}
-use Rattle.verdict_stamp.specs.Known.{Refined, ArePaired, known_of}
+use Rattle.verdict_stamp.specs.Known.{KnownClasses, ArePaired, known_of}
 use Rattle.verdict_stamp.specs.Versions.{Split, Standing}
 
 -- it holds exactly where the pair passes, by the version's needed pairs; else a vector of the same product and k separates it
@@ -38,5 +38,5 @@ IsSettled v m (Holds w) = (w.version ≡ v) × (w.member ≡ m) × Passes v.pair
 IsSettled v m (Splits x) = IsApart v m x
 
 -- what is known isn't proved again: where known classes pair the two literals, that is the answer
-abbrev pub IsToldBy : Refined → Standing → ℕ → Proof → Type 0
+abbrev pub IsToldBy : KnownClasses → Standing → ℕ → Proof → Type 0
 IsToldBy known v m p = ArePaired known v m → p ≡ Holds (known_of known v m)

@@ -1,5 +1,5 @@
 use Rattle.refine_board.specs.Schedules.{opened}
-use Rattle.split_workers.proofs.running.refine_with.Given as goal
+use Rattle.split_workers.proofs.running.refine_from.Given as goal
 
 abbrev pub ghosts-refine_named-L-Ledger : goal.ghosts-refine_named-L-Ledger
 ghosts-refine_named-L-Ledger g a = record { name = a.blanks.offers.name; parts = a.blanks.offers.parts }
