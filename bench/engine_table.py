@@ -2,6 +2,7 @@
 """engine_table.py PROGRAM FOLDER [SECONDS]: times `check` on the pairs of engine_pairs.py and on pairs of demo_pair.py, for k = 1 and 2
 and 1, 2 and 4 workers, with ABC's scorr beside it, and prints a table in markdown. A run is ended after SECONDS (60)."""
 import os
+import signal
 import subprocess
 import sys
 import time
@@ -26,12 +27,11 @@ def timed(words, seconds):
 def peak(words, seconds):
     """The same with the peak memory: /usr/bin/time tells it."""
     began = time.monotonic()
-    run = subprocess.Popen(["/usr/bin/time", "-f", "%M", *words], stdout=subprocess.PIPE, stderr=subprocess.PIPE, text=True)
+    run = subprocess.Popen(["/usr/bin/time", "-f", "%M", *words], stdout=subprocess.PIPE, stderr=subprocess.PIPE, text=True, start_new_session=True)
     try:
         said, told = run.communicate(timeout=seconds)
     except subprocess.TimeoutExpired:
-        run.kill()
-        subprocess.run(["pkill", "-f", words[0] + " check"], check=False)
+        os.killpg(run.pid, signal.SIGKILL)
         run.communicate()
         return None
     return time.monotonic() - began, int(told.split()[-1]) / 1000, said
