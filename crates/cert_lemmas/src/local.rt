@@ -3,7 +3,7 @@
 use crate::lemmas::Lemmas;
 use crate::lines::Lines;
 use crate::places::Derived;
-use crate::taking::{Hinted, Refuted};
+use crate::taking::{Hinted, Refuted, of_frames};
 use class_partition::Classes;
 use local_cases::LocalCases;
 use sat_log::Log;
@@ -24,7 +24,8 @@ impl Refuted for LocalCases {
         } else if hint + 1 == total {
             Hinted::First
         } else {
-            Hinted::Clause(self.source(hint))
+            let (first, second) = self.literals();
+            of_frames(self.source(hint), (self.stated(first), self.stated(second)))
         }
     }
 

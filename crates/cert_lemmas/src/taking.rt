@@ -19,6 +19,18 @@ pub(crate) enum Hinted {
     Line(u64),
 }
 
+/// What a clause of the frames stands for in a case whose literals the frames state in clauses of these numbers; 0 for none. The last line
+/// assumes both literals, and a hint that gives again what is assumed isn't accepted: so such a clause counts as the case's own.
+pub(crate) fn of_frames(number: u64, stated: (u64, u64)) -> Hinted {
+    if number == stated.0 {
+        Hinted::First
+    } else if number == stated.1 {
+        Hinted::Second
+    } else {
+        Hinted::Clause(number)
+    }
+}
+
 /// A case that is refuted.
 pub(crate) trait Refuted {
     /// How many clauses its refutation is over.

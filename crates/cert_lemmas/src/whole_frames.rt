@@ -3,7 +3,7 @@
 use crate::lemmas::Lemmas;
 use crate::lines::number_at;
 use crate::places::{Derived, Places};
-use crate::taking::{Hinted, Refuted};
+use crate::taking::{Hinted, Refuted, of_frames};
 use class_partition::Classes;
 use cnf_store::Cnf;
 use local_cases::add_clause;
@@ -19,13 +19,14 @@ fn no_clauses(alloc: Global, vars: u32) -> Result<Cnf, AllocError> {
     }
 }
 
-// A case: that two literals hold. The clauses beside those of the frames, so many as are given, are the two, and then those of earlier
-// lines.
+// A case: that two literals hold, and the numbers of the frames' clauses that state them, or 0. The clauses beside those of the frames,
+// so many as are given, are the two, and then those of earlier lines.
 #[derive(Drop)]
 struct Case {
     given: u64,
     first: i32,
     second: i32,
+    stated: (u64, u64),
     own: Cnf,
     lines: Vec<u64>,
 }
@@ -37,7 +38,7 @@ impl Refuted for Case {
 
     fn hinted(&self, hint: u64) -> Hinted {
         if hint <= self.given {
-            return Hinted::Clause(hint);
+            return of_frames(hint, self.stated);
         }
         let past = hint - self.given;
         let own = self.own.len();
@@ -125,6 +126,7 @@ impl Lemmas {
             given: self.lines.given,
             first,
             second,
+            stated: (self.cases.stated(first), self.cases.stated(second)),
             own: no_clauses(alloc, self.refuter.vars())?,
             lines: Vec::new(alloc),
         };

@@ -1,6 +1,7 @@
 //! Writing a certificate: the classes, and for each needed pair the logs of its two questions, which are solved again. The
 //! frames are made once, and lent to each question; the logs are trimmed. A log of the last frame, and one from reset where that is a
-//! single frame, is made of what lower places have derived, and checked; where it isn't accepted the question is asked on its own.
+//! single frame, is made of what lower places have derived, and checked; where it isn't accepted the question is asked on its own. Where it
+//! is long the question is asked too, until one was hard, and the shorter of the two logs is written.
 ghost use Rattle.std.specs.Prelude.{◌≡◌, ◌<◌, ◌≤◌, ◌/◌, ◌-◌, ◌++◌, ◌∷◌, ℕ, List, IfOk, IfSome, OnOk, None, decimal, length, true};
 ghost use Rattle.std.specs.List.{All};
 ghost use Rattle.circ_model.specs.Correspondence.{IsLiteral};
@@ -30,10 +31,13 @@ use sat_log::{Log, write_log};
 use std::alloc::{AllocError, Global};
 use std::marker::Model;
 
-// A derived log of so many lines isn't looked at again.
+// A derived log from reset of so many lines isn't looked at again.
 const SHORT: u64 = 4;
 
-// A question from reset whose log has more lines was hard.
+// Nor is one of the last frame of so many.
+const SHORT_LAST: u64 = 32;
+
+// A question whose log has more lines was hard.
 const HARD: u64 = 100;
 
 // Adds a number after a word.
@@ -105,8 +109,9 @@ struct Solvers<'p> {
     step: Workspace,
     last: Deriver<'p>,
     first: Deriver<'p>,
-    // whether a question from reset was hard
+    // whether a question from reset was hard, and one of the last frame
     is_hard: bool,
+    is_last_hard: bool,
 }
 
 // How many clauses frames have with a question over some of them, whichever its literals are.
@@ -292,6 +297,7 @@ fn solvers_of<'p>(
             last,
             first,
             is_hard: false,
+            is_last_hard: false,
         }),
         Err(error) => {
             drop(last);
@@ -508,7 +514,8 @@ fn reset_log(
     }
 }
 
-// The log of the last frame, by what lower places have derived or on its own.
+// The log of the last frame: by what lower places have derived, or on its own. Where asking was hard once, and came to no shorter log, it
+// is left at what is derived.
 fn last_log(
     alloc: Global,
     work: &mut Solvers<'_>,
@@ -525,8 +532,55 @@ fn last_log(
     let pair = frames.classes.needed(place);
     let k = frames.k;
     match derived_log(alloc, &mut work.last, frames, k, place, pair)? {
-        Some(log) => trim_step(alloc, frames, place, log),
+        Some(log) => {
+            let trimmed = trim_step(alloc, frames, place, log)?;
+            if work.is_last_hard || trimmed.len() <= SHORT_LAST {
+                return Ok(trimmed);
+            }
+            shorter_last(alloc, work, frames, place, trimmed)
+        }
         None => step_log(alloc, &mut work.step, frames, place),
+    }
+}
+
+// How many literals and hints a log has.
+fn numbers_of(log: &Log) -> u64 {
+    let mut count: u64 = 0;
+    for i in 0..log.len() {
+        count = count.saturating_add(log.clause(i).len() as u64);
+        count = count.saturating_add(log.hints(i).len() as u64);
+    }
+    count
+}
+
+// A log of the last frame, or the one that the question on its own comes to, where that is shorter.
+fn shorter_last(
+    alloc: Global,
+    work: &mut Solvers<'_>,
+    frames: &Frames<'_>,
+    place: u32,
+    log: Log,
+) -> Result<Log, AllocError>
+    requires place { place < places_of frames.now.pair }
+    requires log { IsStepLog frames.now place log }
+    ensures log { IfOk result (IsStepLog frames.now place) }
+    ensures last { work.new.last.frames ≡ work.old.last.frames }
+    ensures first { work.new.first.frames ≡ work.old.first.frames }
+{
+    let own = match step_log(alloc, &mut work.step, frames, place) {
+        Ok(own) => own,
+        Err(error) => {
+            drop(log);
+            return Err(error);
+        }
+    };
+    if numbers_of(&own) < numbers_of(&log) {
+        drop(log);
+        Ok(own)
+    } else {
+        work.is_last_hard = own.len() > HARD;
+        drop(own);
+        Ok(log)
     }
 }
 

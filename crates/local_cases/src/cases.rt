@@ -3,7 +3,7 @@
 ghost use Rattle.std.specs.Prelude.{◌≡◌, [], IfOk, IfSome, length};
 ghost use Rattle.sat_log.specs.Derivations.{IsAccepted};
 
-use crate::definitions::Definitions;
+use crate::definitions::{Definition, Definitions};
 use crate::local::Local;
 use crate::refuter::Refuter;
 use crate::shorts::Shorts;
@@ -187,6 +187,14 @@ impl LocalCases {
     /// The number in the frames of a clause of the case, counted from 1.
     pub fn source(&self, number: u64) -> u64 {
         self.local.source(number)
+    }
+
+    /// The number of the frames' clause that states a literal alone; 0 where none does.
+    pub fn stated(&self, lit: i32) -> u64 {
+        match self.definitions.of(lit.unsigned_abs()) {
+            Definition::Stated(number, own) => { if own == lit { number } else { 0 } }
+            _ => 0,
+        }
     }
 
     /// Takes in a line that rests on clauses of the frames alone, for later cases, where it is short.

@@ -12,8 +12,8 @@ use std::alloc::{AllocError, Global};
 pub(crate) enum Definition {
     /// It is free.
     Free,
-    /// It is false.
-    Low(u64),
+    /// It is as a literal of it says, which a clause states alone: the clause, and the literal.
+    Stated(u64, i32),
     /// It is equal to a literal: the clause that it needs that, and the one that it is given by it.
     Equal(u64, u64, i32),
     /// It is the product of two literals: the first of its three clauses.
@@ -76,8 +76,9 @@ fn note(frames: &Cnf, number: u64, of: &mut [Definition])
     requires within { number ≤ length frames.now.clauses }
 {
     let clause = frames.clause(number);
-    if clause.len() == 1 && clause[0] < 0 {
-        define(of, clause[0].unsigned_abs(), Definition::Low(number));
+    if clause.len() == 1 {
+        let lit = clause[0];
+        define(of, lit.unsigned_abs(), Definition::Stated(number, lit));
     }
     if number > 1 {
         note_equal(frames.clause(number - 1), clause, number - 1, of);

@@ -129,7 +129,7 @@ impl Local {
     pub(crate) fn define(&mut self, var: i32, what: Definition) -> Result<(), AllocError> {
         match what {
             Definition::Free => Ok(()),
-            Definition::Low(number) => self.add(&[var.wrapping_neg()], number),
+            Definition::Stated(number, lit) => self.add(&[lit], number),
             Definition::Equal(needs, given, lit) => self.equate(var, lit, needs, given),
             Definition::Product(first, left, right) => {
                 let needs = var.wrapping_neg();
