@@ -514,6 +514,14 @@ fn reset_log(
     }
 }
 
+// Whether a derived log of the last frame is short. That a place is constant one line often shows, and a derived log has four and more.
+fn is_short(frames: &Frames<'_>, place: u32, log: &Log) -> bool
+    requires place { place < places_of frames.now.pair }
+{
+    let _places = frames.classes.len();
+    log.len() <= SHORT_LAST && frames.classes.rep(place) != 0
+}
+
 // The log of the last frame: by what lower places have derived, or on its own. Where asking was hard once, and came to no shorter log, it
 // is left at what is derived.
 fn last_log(
@@ -534,7 +542,7 @@ fn last_log(
     match derived_log(alloc, &mut work.last, frames, k, place, pair)? {
         Some(log) => {
             let trimmed = trim_step(alloc, frames, place, log)?;
-            if work.is_last_hard || trimmed.len() <= SHORT_LAST {
+            if work.is_last_hard || is_short(frames, place, &trimmed) {
                 return Ok(trimmed);
             }
             shorter_last(alloc, work, frames, place, trimmed)
