@@ -204,6 +204,7 @@ fn refine_with<'p, R: Threads + Wait + Sync, G: Gate>(
         workers,
     } = task;
     let first = Version::opening(alloc, product, k)?;
+    let _product = first.product();
     let Ok(twins) = twins_of(alloc, &first, known) else {
         drop(first);
         return Err(AllocError);
