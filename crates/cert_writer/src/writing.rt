@@ -1,7 +1,7 @@
 //! Writing a certificate: the classes, and for each needed pair the logs of its two questions, which are solved again. The
 //! frames are made once, and lent to each question; the logs are trimmed. A log of the last frame, and one from reset where that is a
 //! single frame, is made of what lower places have derived, and checked; where it isn't accepted the question is asked on its own. Where it
-//! is long the question is asked too, until one was hard, and the shorter of the two logs is written.
+//! is long the question is asked too, as long as that is worth it, and the shorter of the two logs is written.
 ghost use Rattle.std.specs.Prelude.{◌≡◌, ◌<◌, ◌≤◌, ◌/◌, ◌-◌, ◌++◌, ◌∷◌, ℕ, List, IfOk, IfSome, OnOk, None, decimal, length, true};
 ghost use Rattle.std.specs.List.{All};
 ghost use Rattle.circ_model.specs.Correspondence.{IsLiteral};
@@ -39,6 +39,9 @@ const SHORT_LAST: u64 = 32;
 
 // A question whose log has more lines was hard.
 const HARD: u64 = 100;
+
+// So many more questions of the last frame come to no shorter log than come to one, until none is asked any more.
+const PATIENCE: u32 = 16;
 
 // Adds a number after a word.
 fn push_field(word: &[u8], number: u32, text: &mut Vec<u8>) -> Result<(), AllocError>
@@ -109,9 +112,10 @@ struct Solvers<'p> {
     step: Workspace,
     last: Deriver<'p>,
     first: Deriver<'p>,
-    // whether a question from reset was hard, and one of the last frame
+    // whether a question from reset was hard
     is_hard: bool,
-    is_last_hard: bool,
+    // how many questions of the last frame more may come to no shorter log; none once one was hard
+    patience: u32,
 }
 
 // How many clauses frames have with a question over some of them, whichever its literals are.
@@ -297,7 +301,7 @@ fn solvers_of<'p>(
             last,
             first,
             is_hard: false,
-            is_last_hard: false,
+            patience: PATIENCE,
         }),
         Err(error) => {
             drop(last);
@@ -522,8 +526,8 @@ fn is_short(frames: &Frames<'_>, place: u32, log: &Log) -> bool
     log.len() <= SHORT_LAST && frames.classes.rep(place) != 0
 }
 
-// The log of the last frame: by what lower places have derived, or on its own. Where asking was hard once, and came to no shorter log, it
-// is left at what is derived.
+// The log of the last frame: by what lower places have derived, or on its own. Where asking was hard once, or came to no shorter log too
+// often, it is left at what is derived.
 fn last_log(
     alloc: Global,
     work: &mut Solvers<'_>,
@@ -542,7 +546,7 @@ fn last_log(
     match derived_log(alloc, &mut work.last, frames, k, place, pair)? {
         Some(log) => {
             let trimmed = trim_step(alloc, frames, place, log)?;
-            if work.is_last_hard || is_short(frames, place, &trimmed) {
+            if work.patience == 0 || is_short(frames, place, &trimmed) {
                 return Ok(trimmed);
             }
             shorter_last(alloc, work, frames, place, trimmed)
@@ -559,6 +563,15 @@ fn numbers_of(log: &Log) -> u64 {
         count = count.saturating_add(log.hints(i).len() as u64);
     }
     count
+}
+
+// How many questions more may come to no shorter log, after one that came to this log.
+fn patience_after(patience: u32, log: &Log) -> u32 {
+    if log.len() > HARD {
+        0
+    } else {
+        patience.saturating_sub(1)
+    }
 }
 
 // A log of the last frame, or the one that the question on its own comes to, where that is shorter.
@@ -583,10 +596,11 @@ fn shorter_last(
         }
     };
     if numbers_of(&own) < numbers_of(&log) {
+        work.patience = work.patience.saturating_add(1);
         drop(log);
         Ok(own)
     } else {
-        work.is_last_hard = own.len() > HARD;
+        work.patience = patience_after(work.patience, &own);
         drop(own);
         Ok(log)
     }
