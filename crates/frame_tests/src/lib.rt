@@ -26,3 +26,5 @@ mod simulation;
 mod traces;
 #[cfg(test)]
 mod unrolling;
+#[cfg(test)]
+mod used_logs;

@@ -1,8 +1,8 @@
 -- The list of the needed pairs: its literals are within the places, and it holds in a row where the classes do.
-use Rattle.std.proofs.Common.{◌≡◌, ◌∙◌, ◌<◌, ◌+◌, ◌-◌, ℕ, zero, suc, List, [], ◌∷◌, ◌++◌, length, get_or, refl, ap, sym, subst, arith, Bool, true, false, if◌then◌else◌, length-append, zero-add}
+use Rattle.std.proofs.Common.{◌≡◌, ◌≢◌, ◌∙◌, ◌<◌, ◌+◌, ◌-◌, ℕ, zero, suc, List, [], ◌∷◌, ◌++◌, length, get_or, refl, ap, sym, subst, arith, Bool, true, false, if◌then◌else◌, length-append, zero-add}
 use Rattle.std.specs.Prelude.{flat_map}
 use Rattle.std.specs.List.{range_with_len, All}
-use Rattle.std.proofs.lemmas.Bool.{eqb-true}
+use Rattle.std.proofs.lemmas.Bool.{eqb-true, eq-eqb, false≢true}
 use Rattle.std.proofs.lemmas.List.{get_or_append_left, get_or-append_right}
 use Rattle.std.proofs.lemmas.List.Elements.{All-append, All-cons, All-head, All-nil}
 use Rattle.circ_model.specs.Meaning.{literal, signed, value_in}
@@ -14,7 +14,7 @@ use Rattle.frame_unroll.specs.Members.{member_pair, member_pairs}
 use Rattle.frame_unroll.proofs.Questions.{AreWithin}
 
 -- what holds of each piece holds of the whole, and back
-all_pieces : {X : Type 0} (P : X → Type 0) (f : ℕ → List X) (from n : ℕ) → ((i : ℕ) → i < n → All P (f (from + i))) → All P (flat_map f (range_with_len from n))
+pub all_pieces : {X : Type 0} (P : X → Type 0) (f : ℕ → List X) (from n : ℕ) → ((i : ℕ) → i < n → All P (f (from + i))) → All P (flat_map f (range_with_len from n))
 all_pieces P f from zero h = All-nil P
 all_pieces P f from (suc n) h =
     let e : from + 0 ≡ from = omega arith in
@@ -49,6 +49,19 @@ members_within n classes is = all_pieces (AreWithin n) (member_pair classes) 0 n
         let low = is.lower p lt in
         let sign : Bool = signed (phase_of classes (least_of classes p)) (phase_of classes p) in
         All-cons (AreWithin n) (needed classes p) [] (omega (arith, half_literal (least_of classes p) false), omega (arith, half_literal p sign)) (All-nil (AreWithin n))
+
+-- a pair is that of a place that isn't the least of its class
+abbrev pub IsOfMember : ℕ → Classes → ℕ × ℕ → Type 0
+IsOfMember n classes p = (q : ℕ) × (q < n) × (least_of classes q ≢ q) × (p ≡ needed classes q)
+
+pub members_are : (n : ℕ) (classes : Classes) → All (IsOfMember n classes) (member_pairs n classes)
+members_are n classes = all_pieces (IsOfMember n classes) (member_pair classes) 0 n (λ i lt. let z = zero-add i in by (0 + i) (omega arith) (is_least classes (0 + i)) refl)
+  where
+    by : (p : ℕ) → p < n → (b : Bool) → is_least classes p ≡ b → All (IsOfMember n classes) (if b then [] else needed classes p ∷ [])
+    by p lt true e = All-nil (IsOfMember n classes)
+    by p lt false e =
+        let not_least : least_of classes p ≢ p = λ same. false≢true (sym e ∙ eq-eqb (least_of classes p) p same) in
+        All-cons (IsOfMember n classes) (needed classes p) [] (p, lt, not_least, refl) (All-nil (IsOfMember n classes))
 
 -- a least place holds with itself
 itself : (classes : Classes) (row : List Bool) (p : ℕ) → least_of classes p ≡ p → HoldsIn row (needed classes p)

@@ -6,6 +6,7 @@ ghost use Rattle.circ_model.specs.Correspondence.{IsLiteral};
 ghost use Rattle.product_machine.specs.Cells.{Shows};
 ghost use Rattle.cnf_store.specs.Clauses.{IsLiteral as IsClauseLiteral, satisfies};
 ghost use Rattle.frame_unroll.specs.Frames.{literal_in, values};
+ghost use Rattle.frame_unroll.specs.Pairs.{pairs_of};
 ghost use Rattle.frame_unroll.specs.Ready.{IsOutline};
 ghost use Rattle.frame_unroll.specs.Unrolled.{IsSought, IsUnrolling, AreFramesOf, asked_clauses, asking, clauses_of, plain_clauses, variables_of, from_reset, after_classes};
 
@@ -180,6 +181,21 @@ impl<'p> Outline<'p> {
     {
         let product = self.product;
         read_path(alloc, product, row, self.count)
+    }
+
+    // The needed pair that a clause, counted from 1, says is equal in a frame; so many clauses come before the question's.
+    pub(crate) fn pairs_of(&self, plain: u64, clause: u64) -> &[(Lit, Lit)]
+        requires { plain ≡ length (plain_clauses self.now) }
+        ensures { result.now ≡ pairs_of self.entry.now clause }
+    {
+        let pairs = self.pairs.as_slice();
+        let count = pairs.len() as u64;
+        let first = plain - 2 * (self.count - 1) as u64 * count;
+        if clause <= first || clause > plain {
+            return &pairs[..0];
+        }
+        let i = ((clause - first - 1) / 2 % count) as usize;
+        &pairs[i..i + 1]
     }
 
     /// The bits of the places in a frame, counted from 0, which stand in a row for the variables of the frames.

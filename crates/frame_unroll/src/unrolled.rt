@@ -6,6 +6,7 @@ ghost use Rattle.circ_model.specs.Correspondence.{IsLiteral};
 ghost use Rattle.product_machine.specs.Cells.{Shows};
 ghost use Rattle.cnf_store.specs.Clauses.{IsFormula, satisfies};
 ghost use Rattle.frame_unroll.specs.Frames.{values};
+ghost use Rattle.frame_unroll.specs.Pairs.{pairs_of};
 ghost use Rattle.frame_unroll.specs.Unrolled.{IsSought, clauses_of, variables_of, formula_of, from_reset, after_classes};
 
 use crate::outline::Outline;
@@ -144,6 +145,13 @@ impl<'p> Unrolled<'p> {
         ensures shown { IfOk result (λ path. Shows self.now.pair self.now.frames (values row.now (places_of self.now.pair)) path) }
     {
         self.outline.path_of(alloc, row)
+    }
+
+    /// The needed pair that a clause, counted from 1, says is equal in a frame; no pair where the clause is another one.
+    pub fn pairs_of(&self, clause: u64) -> &[(Lit, Lit)]
+        ensures { result.now ≡ pairs_of self.entry.now clause }
+    {
+        self.outline.pairs_of(self.plain, clause)
     }
 
     /// The outline alone: the clauses go.

@@ -6,9 +6,11 @@
 #![tactic(auto)]
 
 mod line;
+mod reaching;
 mod refute;
 mod scan;
 mod whole_log;
 
 pub use line::are_within;
+pub use reaching::reached;
 pub use whole_log::{check, first_bad};

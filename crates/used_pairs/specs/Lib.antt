@@ -1,0 +1,3 @@
+pub mod Latches
+pub mod Lists
+pub mod Logs
