@@ -1,12 +1,16 @@
 //! Boards of worked pairs, turn by turn, and schedules drawn from seeds.
-ghost use Rattle.std.specs.Prelude.{◌≡◌, ◌≤◌, ◌<◌, ◌+◌, ◌^◌, IfOk, IfSome};
+ghost use Rattle.std.specs.Prelude.{◌≡◌, ◌≤◌, ◌<◌, ◌+◌, ◌^◌, IfOk, IfSome, true};
+ghost use Rattle.claim_word.specs.Words.{version_of};
 ghost use Rattle.refine_board.specs.Schedules.{opened};
 ghost use Rattle.refine_board.specs.Running.{IsAsked};
 ghost use Rattle.verdict_stamp.specs.Published.{IsStampOf};
 
 use crate::circuits::{DELAY, LATE_DELAY, NOTHING, TOGGLE, pair_of};
 use crate::known::known_turns;
+use crate::listed::listed_turns;
+use crate::passes::{claimed_turns, counted_apart};
 use crate::proving::proof_of;
+use claim_word::{ClaimWord, Seat};
 use class_partition::Classes;
 use product_machine::Product;
 use refine_board::{Board, Journal, Offer, Run, Step, Take, finish, replay};
@@ -63,7 +67,7 @@ pub(crate) fn answer<'v, 'p, L: Run>(
     } = work;
     match proof_of(alloc, version, offer.pair())? {
         Proof::Holds(verdict) => {
-            board.keep(offer, &verdict, &stamp);
+            board.keep(offer, verdict, &stamp);
         }
         Proof::Splits(vector) => {
             board.split(offer, vector);
@@ -232,23 +236,27 @@ pub(crate) fn begins_so(journal: &Journal, entries: &[EntryRow]) -> bool {
     true
 }
 
-// Who plays on a board: two workers by turns; two of which the second answers by what is known; or three, whose turns are drawn
-// from a seed.
+// Who plays on a board: two workers by turns; two of which the second answers by what is known; three, of which the first splits the
+// classes before the others answer by logs, or after it; one that claims its pairs; two that claim theirs, of which one splits the
+// classes before the other answers; or three, whose turns are drawn from a seed.
 #[derive(Drop)]
 pub(crate) enum Players<'a, 'p> {
     ByTurns,
     ByKnown(&'a Known<'p>),
+    ByLogs { is_split_first: bool },
+    ByClaims,
+    ByTwoClaims,
     Drawn(u64),
 }
 
-// What a play leaves: the version, the journal, of workers by turns the indices of the first three offers, and of drawn turns
-// whether the replay of the journal had the board's classes at each.
+// What a play leaves: the version, the journal, of workers by turns the indices of the first three offers, of drawn turns whether the
+// replay of the journal had the board's classes at each, and of claims whether they were those that are due.
 #[derive(Drop)]
 pub(crate) struct BoardEnd<'p> {
     pub(crate) version: Version<'p>,
     pub(crate) journal: Journal,
     indices: [usize; 3],
-    is_replayed: bool,
+    pub(crate) is_as_due: bool,
 }
 
 // Plays on a board.
@@ -266,6 +274,12 @@ fn play<'v, 'p, L: Run>(
             known_turns(rt, alloc, board, known)?;
             Ok(([9; 3], true))
         }
+        Players::ByLogs { is_split_first } => {
+            listed_turns(rt, alloc, board, is_split_first)?;
+            Ok(([9; 3], true))
+        }
+        Players::ByClaims => Ok(([9; 3], claimed_turns(rt, alloc, board)?)),
+        Players::ByTwoClaims => Ok(([9; 3], counted_apart(rt, alloc, board)?)),
         Players::Drawn(seed) => Ok(([9; 3], drawn_turns(rt, alloc, board, seed)?)),
     }
 }
@@ -276,6 +290,7 @@ fn play_from<'v, 'p, L: Run>(
     alloc: Global,
     blank: Blank,
     versions: &'v Versions<'p>,
+    word: (&'v ClaimWord, Seat),
     first: Version<'p>,
     who: Players<'_, 'p>,
 ) -> Result<BoardEnd<'p>, AllocError>
@@ -285,16 +300,18 @@ fn play_from<'v, 'p, L: Run>(
     requires workers { L.workers ≡ 3 }
     requires opening { L.opening ≡ opened L.pair L.workers first.classes first.number }
     requires list { L.list ≡ versions.now }
+    requires word { L.word ≡ word.0.now }
+    requires seat { (word.1.word ≡ word.0.now) × (word.1.board ≡ true) × (version_of word.1.written ≡ 0) }
 {
-    let mut board = Board::<'v, 'p, L>::open(alloc, blank, versions, first, 3)?;
+    let mut board = Board::<'v, 'p, L>::open(alloc, blank, versions, word.0, word.1, first, 3)?;
     let played = play(rt, alloc, &mut board, who);
     let (version, journal) = board.close();
-    let (indices, is_replayed) = played?;
+    let (indices, is_as_due) = played?;
     Ok(BoardEnd {
         version,
         journal,
         indices,
-        is_replayed,
+        is_as_due,
     })
 }
 
@@ -311,7 +328,16 @@ pub(crate) fn played<'p>(
 {
     let first = Version::first(alloc, product, k)?;
     let versions = Versions::new(alloc)?;
-    play_from::<Brand>(rt, alloc, Blank::new(1 << 62), &versions, first, who)
+    let (word, seat) = ClaimWord::new(alloc, 0)?;
+    play_from::<Brand>(
+        rt,
+        alloc,
+        Blank::new(1 << 62),
+        &versions,
+        (&word, seat),
+        first,
+        who,
+    )
 }
 
 // What two workers make of a pair.
@@ -504,7 +530,7 @@ fn ends_at_greatest(
     seed: u64,
 ) -> Result<bool, AllocError> {
     let end = played(rt, alloc, product, 1, Players::Drawn(seed))?;
-    Ok(end.is_replayed && same_classes(end.version.classes(), greatest))
+    Ok(end.is_as_due && same_classes(end.version.classes(), greatest))
 }
 
 // Whether the schedules of four seeds do.

@@ -31,6 +31,11 @@ pub(crate) const LATE_DELAY: &str =
 // A latch that stays at 0, beside an input.
 pub(crate) const STUCK: &str = "aag 2 1 1 1 0\n2\n4 4\n4\n";
 
+// An input and a latch that stays at 0, or keeps the input; neither is shown.
+pub(crate) const HIDDEN_STUCK: &str = "aag 2 1 1 0 0\n2\n4 0\n";
+
+pub(crate) const HIDDEN_DELAY: &str = "aag 2 1 1 0 0\n2\n4 2\n";
+
 // The product of twenty inputs, and twenty inputs beside the constant: they differ on one row of a million.
 pub(crate) const RARE: &str =
     "aag 39 20 0 1 19\n2\n4\n6\n8\n10\n12\n14\n16\n18\n20\n22\n24\n26\n28\n30\n32\n34\n36\n38\n40\n\

@@ -32,7 +32,7 @@ fn answer_known<'v, 'p, L: Run>(
     } = work;
     match Verdict::known(version, offer.pair(), known) {
         Some(verdict) => {
-            board.keep(offer, &verdict, &stamp);
+            board.keep(offer, verdict, &stamp);
         }
         None => board.back(offer),
     }

@@ -13,6 +13,10 @@ mod held_rows;
 #[cfg(test)]
 mod known;
 #[cfg(test)]
+mod listed;
+#[cfg(test)]
+mod passes;
+#[cfg(test)]
 mod proving;
 #[cfg(test)]
 mod vectors;

@@ -207,9 +207,7 @@ fn push_and_read<'p>(
     version: &Version<'p>,
 ) -> Result<(usize, bool), AllocError> {
     let copy = version.copy(alloc)?;
-    let Ok(stamp) = versions.push(rt, copy) else {
-        return Err(AllocError);
-    };
+    let stamp = versions.push(rt, copy, Vec::new(alloc), 0)?;
     let read = versions.at(&stamp);
     let same = table_of(read.classes()) == table_of(version.classes());
     Ok((stamp.index(), same && read.number() == version.number()))
@@ -225,15 +223,16 @@ fn are_stamped(rt: &impl Wait, alloc: Global, product: &Product) -> Result<bool,
             return Ok(false);
         }
     }
-    let (Ok(a), Ok(b)) = (versions.push(rt, opening), versions.push(rt, first)) else {
-        return Err(AllocError);
-    };
+    let a = versions.push(rt, opening, Vec::new(alloc), 1)?;
+    let b = versions.push(rt, first, Vec::new(alloc), 2)?;
     Ok(
         a.index() == 3
             && versions.same(&a, &a.copy())
             && !versions.same(&a, &b)
             && versions.at(&a).number() == 1
-            && versions.at(&b).number() == 0,
+            && versions.at(&b).number() == 0
+            && versions.turn(&b) == 2
+            && versions.open_pair(&a, 0).is_none(),
     )
 }
 

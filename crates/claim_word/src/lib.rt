@@ -11,4 +11,4 @@ mod word;
 
 pub use claim::Claim;
 pub use seat::Seat;
-pub use word::ClaimWord;
+pub use word::{ClaimWord, is_spent, version_in};

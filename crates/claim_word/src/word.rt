@@ -1,5 +1,5 @@
 //! The shared word: the version from 2^42 on, the number of its pairs from 2^21 on, and below it the index of the next pair.
-ghost use Rattle.std.specs.Prelude.{◌≡◌, ◌<◌, ◌^◌, true, false, IfOk};
+ghost use Rattle.std.specs.Prelude.{◌≡◌, ◌≢◌, ◌<◌, ◌^◌, true, false, IfOk};
 ghost use Rattle.claim_word.specs.Words.{word_of, version_of, index_of, pairs_of};
 ghost use Rattle.claim_word.specs.Seats.{AreApart, IsAnswered, IsSameSeat, IsSound, beside, both, opening_seat, with_seen};
 
@@ -14,6 +14,21 @@ use std::marker::Model;
 const VERSION: u64 = 1 << 42;
 
 const PAIR: u64 = 1 << 21;
+
+/// Whether each pair of a word's version was claimed.
+pub fn is_spent(word: u64) -> bool
+    ensures yes { result ≡ true → index_of word ≡ pairs_of word }
+    ensures no { result ≡ false → index_of word ≢ pairs_of word }
+{
+    word % PAIR == word / PAIR % PAIR
+}
+
+/// The version of a word.
+pub fn version_in(word: u64) -> u32
+    ensures { result ≡ version_of word }
+{
+    (word / VERSION) as u32
+}
 
 /// A word that threads claim pairs from. Contracts see which word it is.
 #[derive(Drop)]
@@ -85,10 +100,9 @@ impl ClaimWord {
         ensures seat { IsSameSeat seat.old seat.new }
     {
         let word = self.seen(seat);
-        let version = (word / VERSION) as u32;
-        let pairs = word / PAIR % PAIR;
+        let version = version_in(word);
         let index = word % PAIR;
-        if index == pairs {
+        if is_spent(word) {
             return Claim::Spent(version);
         }
         let found = self

@@ -1,12 +1,14 @@
 //! A worker that sleeps at a desk is woken where another one stops the run. No contract speaks of waking, so this is tested. The other
 //! keeps the only pair until the first has found nothing, and stops as where memory runs out.
-ghost use Rattle.std.specs.Prelude.{◌≡◌, ◌<◌, ◌≤◌, ◌*◌, ◌^◌};
+ghost use Rattle.std.specs.Prelude.{◌≡◌, ◌<◌, ◌≤◌, ◌*◌, ◌^◌, true};
+ghost use Rattle.claim_word.specs.Words.{version_of};
 ghost use Rattle.refine_board.specs.Schedules.{opened};
 ghost use Rattle.work_desk.specs.Seats.{AreSeats};
 
 use aig_graph::{BuildFault, NetBuilder, Netlist};
 use bell::Bell;
 use circ_model::Lit;
+use claim_word::ClaimWord;
 use product_machine::{PairFault, Product};
 use refine_board::{Board, Run};
 use sec_base::Gate;
@@ -19,9 +21,15 @@ use std::test::Fail;
 use std::thread;
 use std::thread::{Threads, yield_now};
 use verdict_stamp::{Version, Versions};
-use work_desk::{Asked, Blanks, Caller, Desk, Seat, seats};
+use work_desk::{Asked, Blanks, Caller, Desk, Request, Seat, seats};
 
-// How many calls each of two workers was answered. The second waits at its first call until the first has been answered one.
+// A worker that asks without the turn, and holds no claim.
+const FIRST: Request = Request {
+    has_turn: false,
+    is_holding: false,
+};
+
+// How many calls each of two workers was answered. The second waits at its first call until the first has been answered two.
 #[derive(Drop)]
 struct InTurn {
     told: [AtomicU64; 2],
@@ -45,7 +53,7 @@ impl InTurn {
 impl Gate for InTurn {
     fn hold(&self, worker: u32, _call: u64) {
         if worker == 1 {
-            self.is_told(0, 1);
+            self.is_told(0, 2);
         }
     }
 
@@ -76,8 +84,8 @@ fn toggles(alloc: Global) -> Result<Product, PairFault> {
     }
 }
 
-// Takes a pair, and stops the run when the other worker has found none and has had time to fall asleep. Whether the stop woke it,
-// before the pair goes back.
+// Claims the pair, and stops the run when the other worker has found none and has had time to fall asleep. Whether the stop woke it,
+// before the pass goes back.
 fn stop_while_the_other_sleeps<L: Run, E: Ledger, O: Ledger>(
     rt: &impl Wait,
     desk: &Bell<Desk<'_, '_, L, E, O>>,
@@ -85,10 +93,14 @@ fn stop_while_the_other_sleeps<L: Run, E: Ledger, O: Ledger>(
     seat: Seat<E, O>,
 ) -> bool
     requires party { seat.party < L.workers }
-    requires fresh { (seat.ended ≡ 0) × (seat.owed ≡ 0) }
+    requires fresh { seat.ended ≡ 0 }
 {
-    let mut desk = Caller::new(desk, gate, seat);
-    let Asked::Work(offer) = desk.ask(rt, None, false) else {
+    let mut desk = Caller::new(rt, desk, gate, seat);
+    let Asked::Work(pass) = desk.ask(rt, None, FIRST) else {
+        return false;
+    };
+    let is_claimed = desk.claim(rt).is_some();
+    let Asked::Idle(_) = desk.ask(rt, None, FIRST) else {
         return false;
     };
     let found_none = gate.is_told(1, 1);
@@ -97,8 +109,8 @@ fn stop_while_the_other_sleeps<L: Run, E: Ledger, O: Ledger>(
     }
     desk.stop(rt);
     let is_awake = gate.is_told(1, 2);
-    desk.give_back(rt, offer);
-    found_none && is_awake
+    desk.stop_with(rt, pass);
+    is_claimed && found_none && is_awake
 }
 
 // Asks for a pair, sleeps when there is none, and asks again. Whether it was told then that it is to stop.
@@ -109,14 +121,14 @@ fn sleep_until_the_stop<L: Run, E: Ledger, O: Ledger>(
     seat: Seat<E, O>,
 ) -> bool
     requires party { seat.party < L.workers }
-    requires fresh { (seat.ended ≡ 0) × (seat.owed ≡ 0) }
+    requires fresh { seat.ended ≡ 0 }
 {
-    let mut desk = Caller::new(desk, gate, seat);
-    let Asked::Idle = desk.ask(rt, None, false) else {
+    let mut desk = Caller::new(rt, desk, gate, seat);
+    let Asked::Idle(word) = desk.ask(rt, None, FIRST) else {
         return false;
     };
-    desk.wait(rt);
-    let Asked::Stopped = desk.ask(rt, None, false) else {
+    desk.wait(rt, word);
+    let Asked::Stopped = desk.ask(rt, None, FIRST) else {
         return false;
     };
     true
@@ -142,7 +154,7 @@ fn both_go<
         seats,
         &|seat: Seat<E, O>| -> bool
             requires party { seat.party < L.workers }
-            requires fresh { (seat.ended ≡ 0) × (seat.owed ≡ 0) }
+            requires fresh { seat.ended ≡ 0 }
         {
             if seat.party() == 0 {
                 stop_while_the_other_sleeps(rt, desk, gate, seat)
@@ -166,24 +178,31 @@ fn run_that_stops<
     alloc: Global,
     blanks: Blanks,
     versions: &Versions<'p>,
+    word: (&ClaimWord, claim_word::Seat),
     first: Version<'p>,
     gate: &InTurn,
 ) -> Result<bool, AllocError>
-    requires name { (blanks.offers.name ≡ L.name) × (blanks.offers.parts ≡ L.parts) }
+    requires name { (blanks.entries.name ≡ L.name) × (blanks.entries.parts ≡ L.parts) }
     requires parts { 2 ^ 62 ≤ L.parts }
     requires ends_name { blanks.ends.name ≡ E.name }
     requires ends_parts { (blanks.ends.parts ≡ E.parts) × (E.parts ≡ 2) }
-    requires owed_name { blanks.owed.name ≡ O.name }
-    requires owed_parts { (blanks.owed.parts ≡ O.parts) × (O.parts ≡ 4) }
+    requires seats_name { blanks.seats.name ≡ O.name }
+    requires seats_parts { (blanks.seats.parts ≡ O.parts) × (O.parts ≡ 4) }
     requires product { first.pair ≡ L.pair }
     requires k { first.k ≡ L.k }
     requires workers { L.workers ≡ 2 }
     requires opening { L.opening ≡ opened L.pair L.workers first.classes first.number }
     requires list { L.list ≡ versions.now }
+    requires word { L.word ≡ word.0.now }
+    requires board_seat { (word.1.word ≡ word.0.now) × (word.1.board ≡ true) × (version_of word.1.written ≡ 0) }
 {
-    let Blanks { offers, ends, owed } = blanks;
-    let (ledgers, seats) = seats::<E, O>(alloc, ends, owed, 2)?;
-    let board: Board<'_, '_, L> = Board::open(alloc, offers, versions, first, 2)?;
+    let Blanks {
+        entries,
+        ends,
+        seats: parts,
+    } = blanks;
+    let (ledgers, seats) = seats::<E, O>(alloc, ends, parts, 2)?;
+    let board: Board<'_, '_, L> = Board::open(alloc, entries, versions, word.0, word.1, first, 2)?;
     let desk: Bell<Desk<'_, '_, L, E, O>> = Bell::new(Desk::new(board, ledgers));
     both_go(rt, &desk, gate, seats)
 }
@@ -198,16 +217,18 @@ fn stop_wakes<R: Threads + Wait + Sync>(
         told: [AtomicU64::new(0), AtomicU64::new(0)],
     };
     let versions = Versions::new(alloc)?;
+    let (word, seat) = ClaimWord::new(alloc, 0)?;
     let first = Version::opening(alloc, product, 1)?;
     run_that_stops::<Brand, Brand, Brand, _>(
         rt,
         alloc,
         Blanks {
-            offers: Blank::new(1 << 62),
+            entries: Blank::new(1 << 62),
             ends: Blank::new(2),
-            owed: Blank::new(4),
+            seats: Blank::new(4),
         },
         &versions,
+        (&word, seat),
         first,
         &gate,
     )

@@ -7,7 +7,7 @@ use Rattle.verdict_stamp.specs.Published.{Stamped}
 use Rattle.verdict_stamp.specs.Known.{KnownClasses}
 use Rattle.verdict_stamp.specs.declared.prover.Proof.{Proof}
 use Rattle.verdict_stamp.specs.declared.prover.Proof.TheVariants.{Holds, Splits}
-use Rattle.refine_board.specs.Running.{IsAbout, IsOf, Owed}
+use Rattle.refine_board.specs.Running.{Claiming, IsAbout, IsOf}
 
 -- whether a table has a bench, and whether it has what was proved before
 pub record Laid : Type 0 where
@@ -16,7 +16,7 @@ pub record Laid : Type 0 where
 
 -- the frames of a listed version of the run's pair and k
 abbrev pub IsBenchOf : Shelves → Pair → ℕ → Stamped → Type 0
-IsBenchOf list pair k bench = Shows list bench × (bench.value.pair ≡ pair) × (bench.value.k ≡ k)
+IsBenchOf list pair k bench = Shows list bench × (bench.value.version.pair ≡ pair) × (bench.value.version.k ≡ k)
 
 -- known classes of the pair, for as many frames or fewer
 abbrev pub IsKnownFor : Pair → ℕ → KnownClasses → Type 0
@@ -26,7 +26,7 @@ IsKnownFor pair k n = (n.pair ≡ pair) × (n.k ≤ k)
 abbrev pub IsMemoryFor : Pair → ℕ → Extent → Type 0
 IsMemoryFor pair k m = (m.pair ≡ pair) × (m.k ≡ k)
 
--- what comes of an offered pair: a verdict under the offer's version, or a vector of the run's netlists and k
-abbrev pub IsFoundFor : Pair → ℕ → Owed → Proof → Type 0
-IsFoundFor pair k offer (Holds w) = IsAbout w offer.pair × (w.version ≡ offer.stamp.value)
-IsFoundFor pair k offer (Splits x) = IsOf pair k x
+-- what comes of a claimed pair: a verdict under its version, or a vector of the run's netlists and k
+abbrev pub IsFoundFor : Pair → ℕ → Claiming → Proof → Type 0
+IsFoundFor pair k claimed (Holds w) = IsAbout w claimed.pair × (w.version ≡ claimed.stamp.value.version)
+IsFoundFor pair k claimed (Splits x) = IsOf pair k x

@@ -1,5 +1,5 @@
 //! What a worker proves pairs with: the frames of a published version. They are made anew where the worker is given a pair of
-//! another version; that they fit an offer is seen from two indices.
+//! another version; that they are of a pair's version is seen from two indices.
 ghost use Rattle.std.specs.Prelude.{◌≡◌, IfErr, IfOk, IfSome, IsTrue, OnOk, is_some, true};
 ghost use Rattle.and_graph.specs.Askers.{IsHalted, IsTaken};
 ghost use Rattle.circ_model.specs.Meaning.{places_of};
@@ -33,7 +33,7 @@ impl<'v, 'p> Model for Bench<'v, 'p> {
 
     ghost view = { λ b. b.stamp };
 
-    ghost invariant = { λ b. b.stamp.value ≡ b.prover };
+    ghost invariant = { λ b. b.stamp.value.version ≡ b.prover };
 }
 
 // The frames of a version, which go on with what was proved before where something was.
@@ -60,7 +60,7 @@ impl<'v, 'p> Bench<'v, 'p> {
         stamp: &Stamp<'p>,
     ) -> Result<Bench<'v, 'p>, AllocError>
         requires listed { Shows versions.now stamp.now }
-        requires memory { IfSome memory (IsMemoryFor stamp.now.value.pair stamp.now.value.k) }
+        requires memory { IfSome memory (IsMemoryFor stamp.now.value.version.pair stamp.now.value.version.k) }
         ensures listed { IfOk result (λ b. Shows versions.now b) }
         ensures version { IfOk result (λ b. b.value ≡ stamp.now.value) }
     {
@@ -88,8 +88,8 @@ impl<'v, 'p> Bench<'v, 'p> {
         stamp: &Stamp<'p>,
     ) -> Result<Bench<'v, 'p>, AllocError>
         requires listed { Shows versions.now stamp.now }
-        requires pair { self.value.pair ≡ stamp.now.value.pair }
-        requires k { self.value.k ≡ stamp.now.value.k }
+        requires pair { self.value.version.pair ≡ stamp.now.value.version.pair }
+        requires k { self.value.version.k ≡ stamp.now.value.version.k }
         ensures listed { IfOk result (λ b. Shows versions.now b) }
         ensures version { IfOk result (λ b. b.value ≡ stamp.now.value) }
     {
@@ -103,7 +103,7 @@ impl<'v, 'p> Bench<'v, 'p> {
 
     /// What was proved here, for the bench of another version.
     pub(crate) fn into_memory(self) -> ProverMemory<'p>
-        ensures { IsMemoryFor self.entry.value.pair self.entry.value.k result }
+        ensures { IsMemoryFor self.entry.value.version.pair self.entry.value.version.k result }
     {
         let Bench { prover, .. } = self;
         prover.into_memory()
@@ -116,9 +116,9 @@ impl<'v, 'p> Bench<'v, 'p> {
         asker: &mut Asker,
         known: Option<&Known<'_>>,
     ) -> Result<Option<Vector<'p>>, Halt>
-        requires earlier { IfSome known (λ n. IsKnownFor self.old.value.pair self.old.value.k n.now) }
+        requires earlier { IfSome known (λ n. IsKnownFor self.old.value.version.pair self.old.value.version.k n.now) }
         ensures kept { self.new ≡ self.old }
-        ensures vector { IfOk result (λ v. IfSome v (SplitsSome self.old.value)) }
+        ensures vector { IfOk result (λ v. IfSome v (SplitsSome self.old.value.version)) }
         ensures most { asker.new.most ≡ asker.old.most }
         ensures halt { IfErr result (IsHalted asker.old asker.new) }
     {
@@ -140,11 +140,11 @@ impl<'v, 'p> Bench<'v, 'p> {
         pair: Needed,
         known: Option<&Known<'_>>,
     ) -> Result<Proof<'v, 'p>, Halt>
-        requires needed { IsNeeded (places_of self.old.value.pair) self.old.value.classes pair.member }
-        requires rep { pair.rep ≡ least_of self.old.value.classes pair.member }
-        requires earlier { IfSome known (λ n. IsKnownFor self.old.value.pair self.old.value.k n.now) }
+        requires needed { IsNeeded (places_of self.old.value.version.pair) self.old.value.version.classes pair.member }
+        requires rep { pair.rep ≡ least_of self.old.value.version.classes pair.member }
+        requires earlier { IfSome known (λ n. IsKnownFor self.old.value.version.pair self.old.value.version.k n.now) }
         ensures kept { self.new ≡ self.old }
-        ensures settled { IfOk result (IsSettled self.old.value pair.member) }
+        ensures settled { IfOk result (IsSettled self.old.value.version pair.member) }
         ensures most { asker.new.most ≡ asker.old.most }
         ensures halt { IfErr result (IsHalted asker.old asker.new) }
     {

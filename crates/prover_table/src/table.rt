@@ -8,7 +8,7 @@ ghost use Rattle.prover_table.specs.Tables.{IsBenchOf, IsFoundFor, IsMemoryFor};
 
 use crate::bench::{Bench, turn};
 use crate::lent::Lent;
-use refine_board::{Offer, Run};
+use refine_board::{Claimed, Run};
 use std::alloc::{AllocError, Global};
 use std::marker::{Model, PhantomData};
 use verdict_stamp::{Asker, Halt, Proof, ProverMemory};
@@ -16,8 +16,8 @@ use verdict_stamp::{Asker, Halt, Proof, ProverMemory};
 // So many workers a run has at most.
 const SEATS: usize = 64;
 
-/// The bench, where a pair was offered; until then what was proved before the run, where something was; and by worker the member of
-/// the offer that it is settling, from when a question about that is put aside until it is settled. Contracts see whether there is a
+/// The bench, where a pair was settled; until then what was proved before the run, where something was; and by worker the member of
+/// the pair that it is settling, from when a question about that is put aside until it is settled. Contracts see whether there is a
 /// bench, and whether there is what was proved before.
 #[derive(Drop)]
 pub struct Table<'v, 'p, L: Run> {
@@ -64,7 +64,7 @@ impl<'v, 'p, L: Run> Table<'v, 'p, L> {
         memory_of::<L>(bench).or(memory)
     }
 
-    /// What comes of an offered pair at the bench, which is turned to the offer's version. While rows wait, each offer is answered by the
+    /// What comes of a claimed pair at the bench, which is turned to its version. While rows wait, each pair is answered by the
     /// vector of one, which may separate other pairs than this one. A question over a large cone is put aside in the worker's asker,
     /// and that the pair isn't settled is noted.
     pub fn settle(
@@ -72,33 +72,33 @@ impl<'v, 'p, L: Run> Table<'v, 'p, L> {
         alloc: Global,
         lent: &Lent<'v, 'p, L>,
         asker: &mut Asker,
-        offer: &Offer<'p, L>,
+        claimed: &Claimed<'p, L>,
     ) -> Result<Proof<'v, 'p>, Halt>
-        ensures found { IfOk result (IsFoundFor L.pair L.k offer.now) }
+        ensures found { IfOk result (IsFoundFor L.pair L.k claimed.now) }
         ensures most { asker.new.most ≡ asker.old.most }
         ensures halt { IfErr result (IsHalted asker.old asker.new) }
         ensures bench { OnOk result (self.new.bench ≡ true) }
         ensures aside { IfErr result (λ h. h ≡ Posed → self.new.bench ≡ true) }
     {
-        self.note(offer.party(), None);
+        self.note(claimed.party(), None);
         turn(
             alloc,
             lent,
             &mut self.bench,
             &mut self.memory,
-            offer.stamp(),
+            claimed.stamp(),
         )?;
-        let found = find(alloc, lent, &mut self.bench, asker, offer, &mut self.due);
-        self.note(offer.party(), unsettled(offer, &found));
+        let found = find(alloc, lent, &mut self.bench, asker, claimed, &mut self.due);
+        self.note(claimed.party(), unsettled(claimed, &found));
         found
     }
 
-    /// Whether what workers hold was better handed in at once when the last offer was settled. A hint.
+    /// Whether what workers hold was better handed in at once when the last pair was settled. A hint.
     pub fn is_due(&self) -> bool {
         self.due
     }
 
-    // Notes the member of the offer that a worker is settling, or that there is none.
+    // Notes the member of the pair that a worker is settling, or that there is none.
     fn note(&mut self, party: u32, member: Option<u32>)
         ensures { self.new ≡ self.old }
     {
@@ -118,7 +118,7 @@ impl<'v, 'p, L: Run> Table<'v, 'p, L> {
         }
     }
 
-    /// A worker gives its offer up.
+    /// A worker gives its pair up.
     pub fn leaves(&mut self, party: u32)
         ensures { self.new ≡ self.old }
     {
@@ -134,7 +134,7 @@ impl<'v, 'p, L: Run> Table<'v, 'p, L> {
         }
     }
 
-    /// Whether a worker is still settling the offer with this member.
+    /// Whether a worker is still settling the pair with this member.
     pub fn is_away(&self, party: u32, member: u32) -> bool {
         self.member_of(party) == Some(member)
     }
@@ -173,15 +173,15 @@ fn memory_of<'p, L: Run>(bench: Option<Bench<'_, 'p>>) -> Option<ProverMemory<'p
     Some(bench.into_memory())
 }
 
-// The member of an offer of which a question is put aside.
-fn unsettled<L: Run>(offer: &Offer<'_, L>, found: &Result<Proof<'_, '_>, Halt>) -> Option<u32> {
+// The member of a pair of which a question is put aside.
+fn unsettled<L: Run>(claimed: &Claimed<'_, L>, found: &Result<Proof<'_, '_>, Halt>) -> Option<u32> {
     match found {
-        Err(Halt::Posed) => Some(offer.pair().member),
+        Err(Halt::Posed) => Some(claimed.pair().member),
         _ => None,
     }
 }
 
-// What comes of an offered pair at a bench of the offer's version: the vector of a row that waits, where there is one; else the pair
+// What comes of a claimed pair at a bench of its version: the vector of a row that waits, where there is one; else the pair
 // is settled.
 #[tactic(auto, using(crate::proofs::Finds::found_by, crate::proofs::Finds::splits_for))]
 fn find_at<'v, 'p, L: Run>(
@@ -189,19 +189,19 @@ fn find_at<'v, 'p, L: Run>(
     lent: &Lent<'v, 'p, L>,
     bench: &mut Bench<'v, 'p>,
     asker: &mut Asker,
-    offer: &Offer<'p, L>,
+    claimed: &Claimed<'p, L>,
 ) -> Result<Proof<'v, 'p>, Halt>
-    requires version { bench.old.value ≡ offer.now.stamp.value }
+    requires version { bench.old.value ≡ claimed.now.stamp.value }
     ensures bench { bench.new ≡ bench.old }
-    ensures found { IfOk result (IsFoundFor L.pair L.k offer.now) }
+    ensures found { IfOk result (IsFoundFor L.pair L.k claimed.now) }
     ensures most { asker.new.most ≡ asker.old.most }
     ensures halt { IfErr result (IsHalted asker.old asker.new) }
 {
-    let _owed = offer.stamp();
+    let _owed = claimed.stamp();
     if let Some(vector) = bench.next_waiting(alloc, asker, lent.known)? {
         return Ok(Proof::Splits(vector));
     }
-    bench.settle(alloc, asker, offer.pair(), lent.known)
+    bench.settle(alloc, asker, claimed.pair(), lent.known)
 }
 
 // The same at the bench, which there is. Says whether what workers hold is better handed in at once.
@@ -210,18 +210,18 @@ fn find<'v, 'p, L: Run>(
     lent: &Lent<'v, 'p, L>,
     bench: &mut Option<Bench<'v, 'p>>,
     asker: &mut Asker,
-    offer: &Offer<'p, L>,
+    claimed: &Claimed<'p, L>,
     due: &mut bool,
 ) -> Result<Proof<'v, 'p>, Halt>
     requires some { is_some bench.old ≡ true }
-    requires version { IfSome bench.old (λ b. b.value ≡ offer.now.stamp.value) }
+    requires version { IfSome bench.old (λ b. b.value ≡ claimed.now.stamp.value) }
     ensures bench { bench.new ≡ bench.old }
-    ensures found { IfOk result (IsFoundFor L.pair L.k offer.now) }
+    ensures found { IfOk result (IsFoundFor L.pair L.k claimed.now) }
     ensures most { asker.new.most ≡ asker.old.most }
     ensures halt { IfErr result (IsHalted asker.old asker.new) }
 {
     let Some(at) = bench else { unreachable!() };
-    let found = find_at(alloc, lent, at, asker, offer);
+    let found = find_at(alloc, lent, at, asker, claimed);
     *due = at.is_due();
     found
 }

@@ -25,7 +25,7 @@ use Rattle.refine_board.proofs.Counting.{not_both}
 pub mark_out : (m : Mark) → (m ≡ Open → ⊥) → (is_counted m ≡ true → ⊥) → m ≡ Out
 mark_out Open closed wanted = absurd (closed refl)
 mark_out Out closed wanted = refl
-mark_out (Proved w) closed wanted = absurd (wanted refl)
+mark_out (Proved r w) closed wanted = absurd (wanted refl)
 
 pub same_needed : (classes : Classes) (p q : Needed) → p.member ≡ q.member → least_of classes p.member ≡ p.rep → least_of classes q.member ≡ q.rep → p ≡ q
 same_needed classes p q member rep_p rep_q = ap₂ (λ (r m : ℕ). record { rep = r; member = m }) (sym rep_p ∙ ap (least_of classes) member ∙ rep_q) member

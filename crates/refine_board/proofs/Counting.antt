@@ -23,11 +23,11 @@ counted_more places board p below here m lt need = ⊎_elim
 pub counted_step : (places party : ℕ) (p : Needed) (w : Used) (before after : State) → length before.marks ≡ places → Does places party (Counted p w) before after → AreCountedBelow places before p.member
     → (after.classes ≡ before.classes) × AreCountedBelow places after (p.member + 1)
 counted_step places party p w before after len does below =
-    let new : State = called party (cleared party (marked p.member (Proved w) before)) in
+    let new : State = called party (cleared party (marked p.member (Proved p.rep w) before)) in
     let in_marks : p.member < length before.marks = omega (arith, len, does.0.0.0) in
     let at_new : AreCountedBelow places new (p.member + 1) = λ m lt need. ⊎_elim
-    (λ (e : m ≡ p.member). ap (λ (i : ℕ). is_counted (slice_index_or (set before.marks p.member (Proved w)) i Open)) e ∙ ap is_counted (get_or-set_same before.marks p.member (Proved w) Open in_marks))
-    (λ (ne : m ≡ p.member → ⊥). ap is_counted (get_or-set_other before.marks p.member m (Proved w) Open ne) ∙ below m (omega arith) need)
+    (λ (e : m ≡ p.member). ap (λ (i : ℕ). is_counted (slice_index_or (set before.marks p.member (Proved p.rep w)) i Open)) e ∙ ap is_counted (get_or-set_same before.marks p.member (Proved p.rep w) Open in_marks))
+    (λ (ne : m ≡ p.member → ⊥). ap is_counted (get_or-set_other before.marks p.member m (Proved p.rep w) Open ne) ∙ below m (omega arith) need)
     (cases_eq m p.member) in
     (ap (λ (b : State). b.classes) does.1, subst (λ (b : State). AreCountedBelow places b (p.member + 1)) (sym does.1) at_new)
 

@@ -6,6 +6,7 @@ use Rattle.class_partition.specs.declared.classes.Needed.{Needed}
 use Rattle.class_partition.specs.Classes.{Classes, ArePartition, IsNeeded, Passes, least_of, needed, phase_of}
 use Rattle.circ_model.specs.Correspondence.{Corresponds}
 use Rattle.circ_model.specs.Runs.{phases}
+use Rattle.used_pairs.specs.Lists.{PassesBy}
 use Rattle.verdict_stamp.specs.declared.used.Used.{Used}
 use Rattle.verdict_stamp.specs.declared.used.Used.TheVariants as used
 use Rattle.verdict_stamp.specs.Versions.{Standing, Passed, IsPassed, IsKnown}
@@ -45,11 +46,25 @@ counted_by_known pair k classes w p j is about known found own (pair_is, k_is, n
     let le : j ≤ k = subst (λ (n : ℕ). j ≤ n) k_is is_known.1 in
     ((subst (IsNeeded (places_of pair) classes) about.0 need.0, ap (least_of classes) (sym about.0) ∙ need.1 ∙ about.1), (is_known.0, le, subst (IsKnown pair j classes) about.0 k2))
 
+-- and one that passed by pairs passes by them under these, where they have them together
+counted_by_pairs : (pair : Pair) (k : ℕ) (classes : Classes) (w : Passed) (p : Needed) (pairs : List Needed) → IsPassed w → IsAbout w p → w.used ≡ used.Pairs pairs → w.version.classes.phase ≡ phases w.version.pair → classes.phase ≡ phases pair
+    → CountsBy pair k classes w (used.Pairs pairs) → IsJudged pair k classes p (used.Pairs pairs)
+counted_by_pairs pair k classes w p pairs is about listed found own (pair_is, k_is, need, together) =
+    let phase : w.version.classes.phase ≡ classes.phase = found ∙ ap phases pair_is ∙ sym own in
+    let m : ℕ = w.member in
+    let same : needed w.version.classes m ≡ needed classes m = ap₂ (λ (q : ℕ) (bits : List Bool). (literal q false, literal m (signed (bit bits q) (bit bits m)))) (sym need.1) phase in
+    let by_1 : PassesBy pair w.version.k w.version.classes.phase pairs (needed w.version.classes m) = subst (λ (x : Pair). PassesBy x w.version.k w.version.classes.phase pairs (needed w.version.classes m)) pair_is (is.listed pairs listed) in
+    let by_2 : PassesBy pair k w.version.classes.phase pairs (needed w.version.classes m) = subst (λ (n : ℕ). PassesBy pair n w.version.classes.phase pairs (needed w.version.classes m)) k_is by_1 in
+    let by_3 : PassesBy pair k classes.phase pairs (needed w.version.classes m) = subst (λ (bits : List Bool). PassesBy pair k bits pairs (needed w.version.classes m)) phase by_2 in
+    let by_4 : PassesBy pair k classes.phase pairs (needed classes m) = subst (PassesBy pair k classes.phase pairs) same by_3 in
+    ((subst (IsNeeded (places_of pair) classes) about.0 need.0, ap (least_of classes) (sym about.0) ∙ need.1 ∙ about.1), (together, subst (λ (q : ℕ). PassesBy pair k classes.phase pairs (needed classes q)) about.0 by_4))
+
 pub judged : (pair : Pair) (k : ℕ) (classes : Classes) (w : Passed) (p : Needed) → IsPassed w → IsAbout w p → w.version.classes.phase ≡ phases w.version.pair → classes.phase ≡ phases pair → Counts pair k classes w → IsJudged pair k classes p w.used
 judged pair k classes w p is about found own counts = of w.used refl counts
   where
     of : (u : Used) → w.used ≡ u → CountsBy pair k classes w u → IsJudged pair k classes p u
     of used.Version e counts = counted_by_version pair k classes w p is about counts
+    of (used.Pairs pairs) e counts = counted_by_pairs pair k classes w p pairs is about e found own counts
     of (used.Known j) e counts = counted_by_known pair k classes w p j is about e found own counts
 
 pub not_true : (b : Bool) → not b ≡ true → b ≡ false

@@ -11,3 +11,4 @@ pub mod Dividing
 pub mod Replaying
 pub mod Counting
 pub mod Alone
+pub mod Pending

@@ -12,7 +12,7 @@ use Rattle.refine_board.specs.declared.marks.LastOffer.{LastOffer}
 use Rattle.refine_board.specs.declared.journal.Step.{Step}
 use Rattle.refine_board.specs.declared.journal.Step.TheVariants.{Offered, Idle, Done, Counted, Stale, Back, Foreign, Already, Split}
 use Rattle.refine_board.specs.declared.journal.Entry.{Entry}
-use Rattle.refine_board.specs.States.{State, mark_of, offer_of, IsNextOpen, called, offered, cleared, marked, reopened, released, divided}
+use Rattle.refine_board.specs.States.{State, mark_of, is_open, offer_of, IsOpenPair, called, offered, cleared, marked, reopened, released, divided}
 use Rattle.refine_board.specs.Schedules.{Does, Leads, IsSupported}
 use Rattle.refine_board.specs.Tallies.{is_offered, offered_entries, may_reopen, reopening_entries}
 use Rattle.class_partition.proofs.Counting.{counted, counted_le, counted_lt, counted_but_one, counted_apart}
@@ -44,11 +44,6 @@ tri_is (suc n) = let h = tri_is n in omega arith
 tri_half : (n : ℕ) → n * (n - 1) / 2 ≡ tri n
 tri_half zero = let h = tri_is 0 in omega arith
 tri_half (suc n) = let h = tri_is (suc n) in let e : suc n - 1 ≡ n = omega arith in rw e (omega arith)
-
-abbrev pub is_open : Mark → Bool
-is_open Open = true
-is_open Out = false
-is_open (Proved w) = false
 
 -- a needed pair that waits to be offered
 abbrev pub is_waiting : State → ℕ → Bool
@@ -92,7 +87,7 @@ after_reopening places (Some offer) board = at (offer.number == board.number)
     at true = after_opening places offer.pair.member board
     at false = omega arith
 
-unoffered : (pair : Pair) (k : ℕ) (p : Needed) (board : State) → IsSupported pair k board → IsNextOpen (places_of pair) board p → waiting (places_of pair) (marked p.member Out board) + 1 ≤ waiting (places_of pair) board
+unoffered : (pair : Pair) (k : ℕ) (p : Needed) (board : State) → IsSupported pair k board → IsOpenPair (places_of pair) board p → waiting (places_of pair) (marked p.member Out board) + 1 ≤ waiting (places_of pair) board
 unoffered pair k p board is next =
     let m : ℕ = p.member in
     let lt : m < places_of pair = next.0.0.0 in
@@ -135,7 +130,7 @@ pub spends : (pair : Pair) (k party : ℕ) (event : Step) (before after : State)
 spends pair k party (Offered p) before after is does = let e = same_ahead (places_of pair) after (called party (offered party p before)) does.1 in let h = unoffered pair k p before is does.0 in omega arith
 spends pair k party Idle before after is does = let e = same_ahead (places_of pair) after (called party before) does.2 in omega arith
 spends pair k party Done before after is does = let e = same_ahead (places_of pair) after (called party before) does.1 in omega arith
-spends pair k party (Counted p w) before after is does = let e = same_ahead (places_of pair) after (called party (cleared party (marked p.member (Proved w) before))) does.1 in let h = after_write (places_of pair) p.member (Proved w) before refl in omega arith
+spends pair k party (Counted p w) before after is does = let e = same_ahead (places_of pair) after (called party (cleared party (marked p.member (Proved p.rep w) before))) does.1 in let h = after_write (places_of pair) p.member (Proved p.rep w) before refl in omega arith
 spends pair k party (Stale p) before after is does = let e = same_ahead (places_of pair) after (called party (released party before)) does in let h = reopen_ahead (places_of pair) (offer_of before party) before in omega arith
 spends pair k party (Back p) before after is does = let e = same_ahead (places_of pair) after (called party (released party before)) does in let h = reopen_ahead (places_of pair) (offer_of before party) before in omega arith
 spends pair k party Foreign before after is does = let e = same_ahead (places_of pair) after (called party (released party before)) does in let h = reopen_ahead (places_of pair) (offer_of before party) before in omega arith

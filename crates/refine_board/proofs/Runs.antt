@@ -147,25 +147,13 @@ running_opened pair k workers number classes opening e is keeps = record {
 }
 
 -- an entry was written into its room
-pub held_after : (places cursor to waiting owed room left parts rest : ℕ) (before after : State) (entries : List Entry) (entry : Entry) → IsHeld places before cursor waiting owed room (length entries) parts rest
-    → left + 1 ≡ room → 1 ≤ room - owed → IsPassedBy places after to → to ≤ places → IsHeld places after to waiting owed left (length (entries ++ entry ∷ [])) parts rest
-held_after places cursor to waiting owed room left parts rest before after entries entry held wrote some passed within = record {
+pub held_after : (places cursor to waiting owed room left parts rest : ℕ) (before after : State) → IsHeld places before cursor waiting owed room parts rest
+    → left + 1 ≡ room → 1 ≤ room - owed → IsPassedBy places after to → to ≤ places → IsHeld places after to waiting owed left parts rest
+held_after places cursor to waiting owed room left parts rest before after held wrote some passed within = record {
   passed = passed;
   cursor_in = within;
   waiting_is = held.waiting_is;
   has_room = omega arith;
-  parts_left = let e = length-append entries (entry ∷ []) in let h = held.parts_left in omega arith;
-  many = held.many;
-}
-
--- an offer's entry was written, and its answer is owed
-pub held_offered : (places cursor waiting owed owes room left parts rest others : ℕ) (before after : State) (entries : List Entry) (entry : Entry) → IsHeld places before cursor waiting owed room (length entries) parts rest
-    → left + 1 ≡ room → 2 ≤ room - owed → owes ≡ owed + 1 → others + 1 ≡ rest → IsPassedBy places after cursor → IsHeld places after cursor (waiting + 1) owes left (length (entries ++ entry ∷ [])) parts others
-held_offered places cursor waiting owed owes room left parts rest others before after entries entry held wrote some owe other passed = record {
-  passed = passed;
-  cursor_in = held.cursor_in;
-  waiting_is = let h = held.waiting_is in omega arith;
-  has_room = omega arith;
-  parts_left = let e = length-append entries (entry ∷ []) in let h = held.parts_left in omega arith;
+  parts_left = held.parts_left;
   many = held.many;
 }

@@ -50,7 +50,7 @@ makes places party (Split bits n) before after (classes, split, some, count, e) 
 makes places party (Offered p) before after does = of_classes after (called party (offered party p before)) does.1
 makes places party Idle before after does = of_classes after (called party before) does.2
 makes places party Done before after does = of_classes after (called party before) does.1
-makes places party (Counted p w) before after does = of_classes after (called party (cleared party (marked p.member (Proved w) before))) does.1
+makes places party (Counted p w) before after does = of_classes after (called party (cleared party (marked p.member (Proved p.rep w) before))) does.1
 makes places party (Stale p) before after does = of_classes after (called party (released party before)) does ∙ classes_of_reopened (offer_of before party) before
 makes places party (Back p) before after does = of_classes after (called party (released party before)) does ∙ classes_of_reopened (offer_of before party) before
 makes places party Foreign before after does = of_classes after (called party (released party before)) does ∙ classes_of_reopened (offer_of before party) before

@@ -89,7 +89,7 @@ pub timely_after : (places parties party : ℕ) (event : Step) (before after : S
 timely_after places parties party (Offered p) before after does is = subst (IsTimely places parties) (sym does.1) (timely_called places parties party (offered party p before) (timely_offer places parties party p before does.0.0 is))
 timely_after places parties party Idle before after does is = subst (IsTimely places parties) (sym does.2) (timely_called places parties party before is)
 timely_after places parties party Done before after does is = subst (IsTimely places parties) (sym does.1) (timely_called places parties party before is)
-timely_after places parties party (Counted p w) before after does is = subst (IsTimely places parties) (sym does.1) (timely_called places parties party (cleared party (marked p.member (Proved w) before)) (timely_clear places parties party (marked p.member (Proved w) before) (record { offers = is.offers; past = is.past; now = is.now })))
+timely_after places parties party (Counted p w) before after does is = subst (IsTimely places parties) (sym does.1) (timely_called places parties party (cleared party (marked p.member (Proved p.rep w) before)) (timely_clear places parties party (marked p.member (Proved p.rep w) before) (record { offers = is.offers; past = is.past; now = is.now })))
 timely_after places parties party (Stale p) before after does is = subst (IsTimely places parties) (sym does) (timely_release places parties party before is)
 timely_after places parties party (Back p) before after does is = subst (IsTimely places parties) (sym does) (timely_release places parties party before is)
 timely_after places parties party Foreign before after does is = subst (IsTimely places parties) (sym does) (timely_release places parties party before is)

@@ -1,12 +1,12 @@
 -- The laws of every schedule, as statements.
-use Rattle.std.specs.Prelude.{◌≡◌, ◌↔◌, ℕ, ◌+◌, ◌-◌, ◌*◌, ◌/◌, ◌<◌, ◌≤◌, List, Bool}
+use Rattle.std.specs.Prelude.{◌≡◌, ◌↔◌, ◌⊎◌, ℕ, ◌+◌, ◌-◌, ◌*◌, ◌/◌, ◌<◌, ◌≤◌, List, Bool}
 use Rattle.circ_model.specs.Meaning.{Pair, places_of}
 use Rattle.circ_model.specs.Correspondence.{Together, IsClassCount}
 use Rattle.class_partition.specs.Classes.{Classes, ArePartition, AreTogether, Pairs, class_count, KeepsGreatest, AreOfGreatest}
 use Rattle.refine_board.specs.declared.journal.Step.TheVariants.{Split}
 use Rattle.refine_board.specs.declared.journal.Entry.{Entry}
 use Rattle.class_partition.specs.declared.classes.Needed.{Needed}
-use Rattle.refine_board.specs.States.{State, AllCounted, IsCountedAt, IsKnownAt, IsNeededPair}
+use Rattle.refine_board.specs.States.{State, AllCounted, IsCountedAt, IsKnownAt, IsListedAt, IsNeededPair}
 use Rattle.refine_board.specs.Schedules.{Does, IsAllowed, Leads, IsSupported, LeadsInOrder, opened}
 use Rattle.refine_board.specs.Tallies.{split_entries, offered_entries, reopening_entries, late_entries, back_entries}
 
@@ -40,11 +40,13 @@ NoLaterSplit = (pair : Pair) (k : ℕ) (opening : State) (entries more : List En
 abbrev pub FewSplits : Type 0
 FewSplits = (pair : Pair) (k : ℕ) (opening : State) (entries : List Entry) (board : State) → IsSchedule pair k opening entries board → split_entries entries + 1 ≤ places_of pair
 
--- after a split a needed pair is counted exactly where it was needed before it, and counted as a known one
-abbrev pub KnownStay : Type 0
-KnownStay = (pair : Pair) (k : ℕ) (opening : State) (entries : List Entry) (board after : State) (party n : ℕ) (bits : List Bool) → IsSchedule pair k opening entries board
+-- after a split a needed pair is counted exactly where it was needed and counted before it, and is known, or rests on pairs that are
+-- together still
+abbrev pub LastingStay : Type 0
+LastingStay = (pair : Pair) (k : ℕ) (opening : State) (entries : List Entry) (board after : State) (party n : ℕ) (bits : List Bool) → IsSchedule pair k opening entries board
     → Does (places_of pair) party (Split bits n) board after → IsAllowed pair k board (Split bits n)
-    → (p : Needed) → (IsNeededPair (places_of pair) after.classes p × IsCountedAt after p.member) ↔ (IsNeededPair (places_of pair) board.classes p × IsKnownAt board p.member)
+    → (p : Needed) → (IsNeededPair (places_of pair) after.classes p × IsCountedAt after p.member)
+    ↔ (IsNeededPair (places_of pair) board.classes p × (IsKnownAt board p.member ⊎ (IsNeededPair (places_of pair) after.classes p × IsListedAt board after.classes p.member)))
 
 -- classes with the same least places, which pair the same literals of the pair's places
 abbrev pub AreAlike : ℕ → Classes → Classes → Type 0

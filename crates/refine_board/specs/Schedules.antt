@@ -1,9 +1,10 @@
 -- What each entry of a journal does to a board, and which journals are legal.
-use Rattle.std.specs.Prelude.{◌≡◌, ◌≢◌, ℕ, ◌+◌, ◌<◌, ◌≤◌, List, [], ◌∷◌, length, replicate, Bool, slice_index, Some, None}
+use Rattle.std.specs.Prelude.{◌≡◌, ◌≢◌, ℕ, ◌+◌, ◌<◌, ◌≤◌, List, [], ◌∷◌, length, replicate, Bool, true, slice_index, Some, None}
 use Rattle.circ_model.specs.Meaning.{Pair, places_of}
 use Rattle.circ_model.specs.Correspondence.{MaySplit}
 use Rattle.class_partition.specs.declared.classes.Needed.{Needed}
-use Rattle.class_partition.specs.Classes.{Classes, ArePartition, IsNeeded, HoldIn, relative, IsSplit, class_count, KeepsGreatest, Passes}
+use Rattle.class_partition.specs.Classes.{Classes, ArePartition, IsNeeded, HoldIn, relative, IsSplit, class_count, KeepsGreatest, Passes, least_of, needed}
+use Rattle.used_pairs.specs.Lists.{PassesBy, all_together}
 use Rattle.verdict_stamp.specs.Versions.{IsKnown}
 use Rattle.verdict_stamp.specs.declared.used.Used.{Used}
 use Rattle.verdict_stamp.specs.declared.used.Used.TheVariants as used
@@ -12,14 +13,14 @@ use Rattle.refine_board.specs.declared.marks.LastOffer.{LastOffer}
 use Rattle.refine_board.specs.declared.journal.Step.{Step}
 use Rattle.refine_board.specs.declared.journal.Step.TheVariants.{Offered, Idle, Done, Counted, Stale, Split, Already, Foreign, Back}
 use Rattle.refine_board.specs.declared.journal.Entry.{Entry}
-use Rattle.refine_board.specs.States.{State, mark_of, IsCountedAt, offer_of, IsNeededPair, IsNextOpen, NoneOpen, SomeOut, AllCounted, called, offered, cleared, marked, released, divided}
+use Rattle.refine_board.specs.States.{State, mark_of, IsCountedAt, offer_of, IsNeededPair, IsOpenPair, NoneOpen, SomeOut, AllCounted, called, offered, cleared, marked, released, divided}
 
 -- what an entry of a party does
 abbrev pub Does : ℕ → ℕ → Step → State → State → Type 0
-Does places party (Offered p) before after = IsNextOpen places before p × (after ≡ called party (offered party p before))
+Does places party (Offered p) before after = IsOpenPair places before p × (after ≡ called party (offered party p before))
 Does places party Idle before after = NoneOpen places before × SomeOut places before × (after ≡ called party before)
 Does places party Done before after = AllCounted places before × (after ≡ called party before)
-Does places party (Counted p w) before after = IsNeededPair places before.classes p × (after ≡ called party (cleared party (marked p.member (Proved w) before)))
+Does places party (Counted p w) before after = IsNeededPair places before.classes p × (after ≡ called party (cleared party (marked p.member (Proved p.rep w) before)))
 Does places party (Stale p) before after = after ≡ called party (released party before)
 Does places party (Back p) before after = after ≡ called party (released party before)
 Does places party Foreign before after = after ≡ called party (released party before)
@@ -32,9 +33,11 @@ Does places party (Split bits n) before after =
 abbrev pub IsStep : ℕ → Entry → State → State → Type 0
 IsStep places entry before after = (entry.worker < length before.calls) × (entry.call ≡ slice_index before.calls entry.worker) × Does places entry.worker entry.step before after
 
--- what a counted pair rests on: that it passes under the classes, or that it is one of the greatest correspondence for no more frames
+-- what a counted pair rests on: that it passes under the classes; that it passes by pairs that these have together; or that it is one of
+-- the greatest correspondence for no more frames
 abbrev pub RestsOn : Pair → ℕ → Classes → ℕ → Used → Type 0
 RestsOn pair k classes p used.Version = Passes pair k classes p
+RestsOn pair k classes p (used.Pairs pairs) = (all_together classes pairs ≡ true) × PassesBy pair k classes.phase pairs (needed classes p)
 RestsOn pair k classes p (used.Known j) = (0 < j) × (j ≤ k) × IsKnown pair j classes p
 
 -- what stands behind an entry: what a counted pair rests on, a row that may split
@@ -64,7 +67,7 @@ pub record IsSupported (pair : Pair) (k : ℕ) (board : State) : Type 0 where
   pub keeps : KeepsGreatest pair k board.classes
   pub marks : length board.marks ≡ places_of pair
   pub counted : (p : ℕ) → IsNeeded (places_of pair) board.classes p → IsCountedAt board p → Passes pair k board.classes p
-  pub rests : (p : ℕ) (w : Used) → IsNeeded (places_of pair) board.classes p → mark_of board p ≡ Proved w → RestsOn pair k board.classes p w
+  pub rests : (p r : ℕ) (w : Used) → IsNeeded (places_of pair) board.classes p → mark_of board p ≡ Proved r w → (least_of board.classes p ≡ r) × RestsOn pair k board.classes p w
 
 abbrev pub HasOffer : State → ℕ → (LastOffer → Type 0) → Type 0
 HasOffer board party P = (offer : LastOffer) × (offer_of board party ≡ Some offer) × P offer

@@ -1,5 +1,7 @@
 -- A board of refinement as plain data, and the changes that its entries make.
-use Rattle.std.specs.Prelude.{◌≡◌, ◌==◌, ℕ, ◌+◌, ◌<◌, List, [], map, Bool, true, false, set, if◌then◌else◌, slice_index, slice_index_or, Option, Some, None}
+use Rattle.std.specs.Prelude.{◌≡◌, ◌==◌, ◌&&◌, ℕ, ◌+◌, ◌-◌, ◌^◌, ◌<◌, List, [], length, map, filter, not, Bool, true, false, set, if◌then◌else◌, slice_index, slice_index_or, Option, Some, None}
+use Rattle.std.specs.List.{range_with_len}
+use Rattle.atomic_table.specs.Seated.{TableId}
 use Rattle.boxcar.specs.Table.{Shelves}
 use Rattle.circ_model.specs.Netlist.{Netlist}
 use Rattle.circ_model.specs.Meaning.{Pair}
@@ -8,6 +10,7 @@ use Rattle.class_partition.specs.Classes.{Classes, IsNeeded, least_of}
 use Rattle.refine_board.specs.declared.marks.Mark.{Mark}
 use Rattle.refine_board.specs.declared.marks.Mark.TheVariants.{Open, Out, Proved}
 use Rattle.refine_board.specs.declared.marks.LastOffer.{LastOffer}
+use Rattle.used_pairs.specs.Lists.{all_together}
 use Rattle.verdict_stamp.specs.declared.used.Used.TheVariants as used
 
 pub record State : Type 0 where
@@ -23,7 +26,12 @@ mark_of board p = slice_index_or board.marks p Open
 abbrev pub is_counted : Mark → Bool
 is_counted Open = false
 is_counted Out = false
-is_counted (Proved w) = true
+is_counted (Proved r w) = true
+
+abbrev pub is_open : Mark → Bool
+is_open Open = true
+is_open Out = false
+is_open (Proved r w) = false
 
 -- the place's pair is counted
 abbrev pub IsCountedAt : State → ℕ → Type 0
@@ -31,14 +39,22 @@ IsCountedAt board p = is_counted (mark_of board p) ≡ true
 
 -- and counted as one of the greatest correspondence for some number of frames
 abbrev pub IsKnownAt : State → ℕ → Type 0
-IsKnownAt board p = (j : ℕ) × (mark_of board p ≡ Proved (used.Known j))
+IsKnownAt board p = (r j : ℕ) × (mark_of board p ≡ Proved r (used.Known j))
 
--- what a split leaves of a mark: a known pair stays counted
-abbrev pub lasting : Mark → Mark
-lasting Open = Open
-lasting Out = Open
-lasting (Proved used.Version) = Open
-lasting (Proved (used.Known j)) = Proved (used.Known j)
+-- and counted by pairs that classes have together
+abbrev pub IsListedAt : State → Classes → ℕ → Type 0
+IsListedAt board classes p = (r : ℕ) × (pairs : List Needed) × (mark_of board p ≡ Proved r (used.Pairs pairs)) × (all_together classes pairs ≡ true)
+
+-- what a split to these classes leaves of a place's mark: it stays counted where its pair is known, and where its pair and all that it rests on stay together
+abbrev pub lasting : Classes → ℕ → Mark → Mark
+lasting classes p Open = Open
+lasting classes p Out = Open
+lasting classes p (Proved r used.Version) = Open
+lasting classes p (Proved r (used.Pairs pairs)) = if (least_of classes p == r) && all_together classes pairs then Proved r (used.Pairs pairs) else Open
+lasting classes p (Proved r (used.Known j)) = Proved r (used.Known j)
+
+abbrev pub lasting_marks : Classes → List Mark → List Mark
+lasting_marks classes marks = map (λ p. lasting classes p (slice_index_or marks p Open)) (range_with_len 0 (length marks))
 
 abbrev pub offer_of : State → ℕ → Option LastOffer
 offer_of board party = slice_index_or board.offers party None
@@ -50,9 +66,27 @@ IsNeededPair places classes p = IsNeeded places classes p.member × (least_of cl
 abbrev pub IsOpen : ℕ → State → ℕ → Type 0
 IsOpen places board p = IsNeeded places board.classes p × (mark_of board p ≡ Open)
 
--- the open pair with the least member
+-- a needed pair that is open
+abbrev pub IsOpenPair : ℕ → State → Needed → Type 0
+IsOpenPair places board p = IsNeededPair places board.classes p × (mark_of board p.member ≡ Open)
+
+-- the one with the least member
 abbrev pub IsNextOpen : ℕ → State → Needed → Type 0
-IsNextOpen places board p = IsNeededPair places board.classes p × (mark_of board p.member ≡ Open) × ((m : ℕ) → m < p.member → IsOpen places board m → ⊥)
+IsNextOpen places board p = IsOpenPair places board p × ((m : ℕ) → m < p.member → IsOpen places board m → ⊥)
+
+-- the members of all of them, in their order
+abbrev pub is_open_at : Classes → List Mark → ℕ → Bool
+is_open_at classes marks p = not (least_of classes p == p) && is_open (slice_index_or marks p Open)
+
+abbrev pub open_list : Classes → List Mark → List ℕ
+open_list classes marks = filter (is_open_at classes marks) (range_with_len 0 (length classes.least))
+
+abbrev pub open_members : State → List ℕ
+open_members board = open_list board.classes board.marks
+
+-- as many of them as are published at once
+abbrev pub most_open : ℕ
+most_open = 2 ^ 21 - 1
 
 abbrev pub NoneOpen : ℕ → State → Type 0
 NoneOpen places board = (m : ℕ) → IsOpen places board m → ⊥
@@ -85,7 +119,7 @@ abbrev pub released : ℕ → State → State
 released party board = cleared party (reopened (offer_of board party) board)
 
 abbrev pub divided : Classes → State → State
-divided classes board = record board { classes = classes; number = board.number + 1; marks = map lasting board.marks }
+divided classes board = record board { classes = classes; number = board.number + 1; marks = lasting_marks classes board.marks }
 
 -- what a brand names before a call picks its run
 abbrev pub no_net : Netlist
@@ -99,3 +133,6 @@ no_state = record { classes = record { least = []; phase = [] }; number = 0; mar
 
 abbrev pub no_list : Shelves
 no_list = record { tag = []; buckets = [] }
+
+abbrev pub no_word : TableId
+no_word = record { words = 0; slots = 0; views_name = 0; atom = 0; block = 0; offset = 0; slot_names = [] }

@@ -3,12 +3,13 @@
 //! the opening to the state.
 ghost use Rattle.std.specs.Prelude.{◌≡◌, ◌≢◌, ◌<◌, ◌≤◌, ◌+◌, ◌^◌, ◌↔◌, [], ℕ, IsTrue, IfOk, OnErr, None, true, false};
 ghost use Rattle.boxcar.specs.Table.{Shows};
+ghost use Rattle.claim_word.specs.Words.{version_of};
 ghost use Rattle.circ_model.specs.Meaning.{places_of};
 ghost use Rattle.class_partition.specs.Classes.{AreOfGreatest};
 ghost use Rattle.refine_board.specs.States.{AllCounted, NoneOpen, SomeOut};
 ghost use Rattle.refine_board.specs.Schedules.{Leads, opened};
-ghost use Rattle.refine_board.specs.Running.{Appends, Counts, IsAbout, IsStampedAs, IsUnder, IsOf};
-ghost use Rattle.refine_board.specs.Answers.{taken, IsCurrentOffer, IsOwnOffer, HasOneStamp, kept_step, cut_step, stamp_after};
+ghost use Rattle.refine_board.specs.Running.{Appends, Counts, IsAbout, IsBegun, IsStampedAs, IsUnder, IsOf};
+ghost use Rattle.refine_board.specs.Answers.{taken, IsCurrentOffer, IsLeastOffer, IsOwnOffer, HasOneStamp, kept_step, cut_step, stamp_after};
 ghost use Rattle.verdict_stamp.specs.Published.{IsStampOf};
 
 use crate::answers::{Cut, Kept, Offer, Take};
@@ -16,6 +17,7 @@ use crate::journal::{Journal, Step};
 use crate::marks::{LastOffer, Mark, no_calls, no_offers, open_marks};
 use crate::run::Run;
 use crate::same::is_under;
+use claim_word::{ClaimWord, Seat};
 use std::alloc::{AllocError, Global};
 use std::marker::Model;
 use std::sync::Wait;
@@ -32,6 +34,9 @@ pub struct Board<'v, 'p, L: Run> {
     pub(crate) first: Version<'p>,
     pub(crate) versions: &'v Versions<'p>,
     pub(crate) current: Option<Stamp<'p>>,
+    pub(crate) word: &'v ClaimWord,
+    pub(crate) seat: Seat,
+    pub(crate) turn: u32,
     pub(crate) marks: Vec<Mark>,
     pub(crate) calls: Vec<u64>,
     pub(crate) offers: Vec<Option<LastOffer>>,
@@ -43,26 +48,29 @@ pub struct Board<'v, 'p, L: Run> {
 }
 
 impl<'v, 'p, L: Run> Model for Board<'v, 'p, L> {
-    ghost use Rattle.std.specs.Prelude.{◌-◌, length};
+    ghost use Rattle.std.specs.Prelude.{◌-◌};
+    ghost use Rattle.claim_word.specs.Words.{version_of};
     ghost use Rattle.circ_model.specs.Meaning.{places_of};
     ghost use Rattle.refine_board.specs.Running.{Running, IsRunning, IsOfRun, IsHeld, state_of};
 
     ghost Value = { Running };
 
-    ghost view = { λ b. record { state = state_of b.version b.marks.items b.calls.items b.offers.items; entries = b.journal.entries; room = b.journal.room - b.owed.total; current = b.current } };
+    ghost view = { λ b. record { state = state_of b.version b.marks.items b.calls.items b.offers.items; entries = b.journal.entries; room = b.journal.room - b.owed.total; owed = b.waiting; current = b.current; seat = b.seat } };
 
     ghost invariant = { λ b. IsRunning L.pair L.k L.workers L.opening (state_of b.version b.marks.items b.calls.items b.offers.items) b.journal.entries
-        × IsOfRun L.pair L.k L.workers L.opening b.version b.first L.list b.versions.now b.current
-        × IsHeld (places_of L.pair) (state_of b.version b.marks.items b.calls.items b.offers.items) b.cursor b.waiting b.owed.total b.journal.room (length b.journal.entries) L.parts b.rest.parts };
+        × IsOfRun L.pair L.k L.workers L.opening b.version b.first L.list b.versions.now b.current L.word b.word.now b.seat b.turn
+        × IsHeld (places_of L.pair) (state_of b.version b.marks.items b.calls.items b.offers.items) b.cursor b.waiting b.owed.total b.journal.room L.parts b.rest.parts };
 }
 
 impl<'v, 'p, L: Run> Board<'v, 'p, L> {
-    /// The board on which a run begins: all pairs are open. The blank's ledger is the run's, and so is the list, to which the
-    /// board adds its versions.
+    /// The board on which a run begins: all pairs are open. The blank's ledger is the run's, and so are the list, to which the
+    /// board adds its versions, and the word, of which it takes the board's seat, and at which no version has begun.
     pub fn open(
         alloc: Global,
         blank: Blank,
         versions: &'v Versions<'p>,
+        word: &'v ClaimWord,
+        seat: Seat,
         first: Version<'p>,
         workers: u32,
     ) -> Result<Board<'v, 'p, L>, AllocError>
@@ -73,7 +81,9 @@ impl<'v, 'p, L: Run> Board<'v, 'p, L> {
         requires workers { workers ≡ L.workers }
         requires opening { L.opening ≡ opened L.pair L.workers first.classes first.number }
         requires list { L.list ≡ versions.now }
-        ensures { IfOk result (λ b. (b.state ≡ L.opening) × (b.entries ≡ []) × (b.current ≡ None)) }
+        requires word { L.word ≡ word.now }
+        requires seat { (seat.word ≡ word.now) × (seat.board ≡ true) × (version_of seat.written ≡ 0) }
+        ensures { IfOk result (λ b. (b.state ≡ L.opening) × (b.entries ≡ []) × (b.current ≡ None) × (b.seat ≡ seat)) }
     {
         let version = first.copy(alloc)?;
         let places = first.classes().len();
@@ -88,6 +98,9 @@ impl<'v, 'p, L: Run> Board<'v, 'p, L> {
             first,
             versions,
             current: None,
+            word,
+            seat,
+            turn: 0,
             marks,
             calls,
             offers,
@@ -105,8 +118,10 @@ impl<'v, 'p, L: Run> Board<'v, 'p, L> {
     pub fn take(&mut self, rt: &impl Wait, party: u32) -> Result<Take<'p, L>, AllocError>
         requires party { party < L.workers + 1 }
         ensures ok { IfOk result (λ t. Appends (places_of L.pair) self.old self.new party (taken t) × IsOwnOffer self.old party t) }
+        ensures least { IfOk result (IsLeastOffer (places_of L.pair) self.old) }
         ensures version { IfOk result (IsCurrentOffer L.pair L.k self.old) }
         ensures one_stamp { IfOk result (HasOneStamp self.old self.new) }
+        ensures begun { IsBegun self.old.seat self.new.seat }
         ensures err { OnErr result ((self.new.state ≡ self.old.state) × (self.new.entries ≡ self.old.entries) × (self.new.current ≡ self.old.current)) }
     {
         self.spare()?;
@@ -123,37 +138,28 @@ impl<'v, 'p, L: Run> Board<'v, 'p, L> {
         Ok(Take::Done)
     }
 
-    /// Counts the offer's pair, where the verdict was found for the run's netlists and k: under the board's classes, or it rests on
-    /// what is known, and the pair is a needed one of the board's classes. Else the verdict is outdated. The stamp is that of the
-    /// verdict's version. Where it is the board's own, no classes are compared, nor are they for what is known.
-    pub fn keep(
-        &mut self,
-        offer: Offer<'p, L>,
-        verdict: &Verdict<'_, '_>,
-        stamp: &Stamp<'p>,
-    ) -> Kept
-        requires about { IsAbout verdict.now offer.pair }
-        requires stamp { IsStampOf L.list stamp.now verdict.now.version }
-        ensures step { Appends (places_of L.pair) self.old self.new offer.entry.party (kept_step result offer.entry.pair verdict.now.used) }
-        ensures current { self.new.current ≡ self.old.current }
-        ensures counted { result ≡ Kept.Counted → Counts L.pair L.k self.old.state.classes verdict.now }
-        ensures stale { result ≡ Kept.Stale → Counts L.pair L.k self.old.state.classes verdict.now → ⊥ }
+    /// Counts the offer's pair, where the verdict was found for the run's netlists and k: under the board's classes; or the pair is a
+    /// needed one of these, and the verdict rests on what is known, or on pairs that they have together. Else the verdict is outdated.
+    /// The stamp is that of the verdict's version. Classes are compared only where the verdict rests on all of them, and the stamp isn't
+    /// the board's own.
+    pub fn keep(&mut self, offer: Offer<'p, L>, verdict: Verdict<'_, '_>, stamp: &Stamp<'p>) -> Kept
+        requires about { IsAbout verdict offer.pair }
+        requires stamp { IsStampOf L.list stamp.now verdict.version }
+        ensures step { Appends (places_of L.pair) self.old self.new offer.entry.party (kept_step result offer.entry.pair verdict.entry.used) }
+        ensures published { (self.new.current ≡ self.old.current) × (self.new.seat ≡ self.old.seat) }
+        ensures counted { result ≡ Kept.Counted → Counts L.pair L.k self.old.state.classes verdict.entry }
+        ensures stale { result ≡ Kept.Stale → Counts L.pair L.k self.old.state.classes verdict.entry → ⊥ }
     {
-        let counts = self.counts(&offer, verdict, stamp);
+        let counts = self.counts(offer.pair(), offer.stamp(), &verdict, stamp);
         let (party, pair) = self.settle(offer.into_debt());
-        if counts {
-            self.count(party, pair, verdict);
-            return Kept::Counted;
-        }
-        self.free(party, Step::Stale(pair));
-        Kept::Stale
+        self.enter(party, pair, verdict, counts)
     }
 
-    /// Splits the classes by a vector that was found for the offer, where it is of the run's netlists and k. A split leaves the known
-    /// pairs counted, and opens each other needed pair. Nothing splits the classes of the greatest correspondence.
+    /// Splits the classes by a vector that was found for the offer, where it is of the run's netlists and k. A split leaves those pairs
+    /// counted that are known, and those that stand together with all on which they rest; it opens each other needed pair. Nothing splits the classes of the greatest correspondence.
     pub fn split(&mut self, offer: Offer<'p, L>, vector: Vector<'_>) -> Cut
         ensures step { Appends (places_of L.pair) self.old self.new offer.entry.party (cut_step result vector.entry.bits) }
-        ensures current { self.new.current ≡ stamp_after result self.old.current }
+        ensures current { (self.new.current ≡ stamp_after result self.old.current) × (self.new.seat ≡ self.old.seat) }
         ensures own { result ≢ Cut.Foreign → IsOf L.pair L.k vector.entry }
         ensures foreign { result ≡ Cut.Foreign → IsOf L.pair L.k vector.entry → ⊥ }
         ensures stays { AreOfGreatest L.pair L.k self.old.state.classes → self.new.state.classes ≡ self.old.state.classes }
@@ -171,7 +177,7 @@ impl<'v, 'p, L: Run> Board<'v, 'p, L> {
     pub fn split_own(&mut self, offer: Offer<'p, L>, vector: Vector<'_>) -> Cut
         requires own { IsOf L.pair L.k vector }
         ensures step { Appends (places_of L.pair) self.old self.new offer.entry.party (cut_step result vector.entry.bits) }
-        ensures current { self.new.current ≡ stamp_after result self.old.current }
+        ensures current { (self.new.current ≡ stamp_after result self.old.current) × (self.new.seat ≡ self.old.seat) }
         ensures own { result ≢ Cut.Foreign }
         ensures stays { AreOfGreatest L.pair L.k self.old.state.classes → self.new.state.classes ≡ self.old.state.classes }
     {
@@ -182,7 +188,7 @@ impl<'v, 'p, L: Run> Board<'v, 'p, L> {
     /// Gives the work back.
     pub fn back(&mut self, offer: Offer<'p, L>)
         ensures step { Appends (places_of L.pair) self.old self.new offer.entry.party (Step.Back offer.entry.pair) }
-        ensures current { self.new.current ≡ self.old.current }
+        ensures published { (self.new.current ≡ self.old.current) × (self.new.seat ≡ self.old.seat) }
     {
         let (party, pair) = self.settle(offer.into_debt());
         self.free(party, Step::Back(pair));
@@ -216,7 +222,7 @@ impl<'v, 'p, L: Run> Board<'v, 'p, L> {
     /// two indices.
     pub fn is_stamped(&self, stamp: &Stamp<'p>) -> bool
         requires { Shows L.list stamp.now }
-        ensures version { result ≡ true → IsUnder L.pair L.k self.now.state.classes stamp.now.value }
+        ensures version { result ≡ true → IsUnder L.pair L.k self.now.state.classes stamp.now.value.version }
         ensures exact { IsTrue result ↔ IsStampedAs self.now.current stamp.now }
     {
         match &self.current {

@@ -18,16 +18,15 @@ fn count_pair<L: Run>(
     board: &mut Board<'_, '_, L>,
     party: u32,
     pair: Needed,
-    verdict: &Verdict<'_, '_>,
+    verdict: Verdict<'_, '_>,
 )
     requires party { party < L.workers + 1 }
     requires pair { IsNeededPair (places_of L.pair) board.old.state.classes pair }
     requires wanted { IsCountedAt board.old.state pair.member → ⊥ }
     requires below { AreCountedBelow (places_of L.pair) board.old.state pair.member }
-    requires about { IsAbout verdict.now pair }
-    requires counts { Counts L.pair L.k board.old.state.classes verdict.now }
+    requires about { IsAbout verdict pair }
+    requires counts { Counts L.pair L.k board.old.state.classes verdict }
     requires room { 2 ≤ board.old.room }
-    requires few { length board.old.entries < 2 ^ 60 }
     ensures closes { Closes (places_of L.pair) party board.old board.new }
     ensures classes { board.new.state.classes ≡ board.old.state.classes }
     ensures below { AreCountedBelow (places_of L.pair) board.new.state (pair.member + 1) }
@@ -46,7 +45,6 @@ fn cut_pair<L: Run>(board: &mut Board<'_, '_, L>, party: u32, pair: Needed, vect
     requires own { IsOf L.pair L.k vector }
     requires separates { Separates vector.bits (needed board.old.state.classes pair.member) }
     requires room { 2 ≤ board.old.room }
-    requires few { length board.old.entries < 2 ^ 60 }
     ensures closes { Closes (places_of L.pair) party board.old board.new }
     ensures split { class_count (places_of L.pair) board.old.state.classes < class_count (places_of L.pair) board.new.state.classes }
 {
@@ -76,7 +74,7 @@ fn decide<L: Run>(
     let pair = board.pair_at(member);
     match prover.prove(alloc, pair)? {
         Proof::Holds(verdict) => {
-            count_pair(board, party, pair, &verdict);
+            count_pair(board, party, pair, verdict);
             Ok(false)
         }
         Proof::Splits(vector) => {

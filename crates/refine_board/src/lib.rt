@@ -9,12 +9,13 @@ mod closing;
 mod history;
 mod journal;
 mod laws;
+mod looking;
 mod marks;
 mod run;
 mod same;
 mod steps;
 
-pub use answers::{Cut, Kept, Offer, Take};
+pub use answers::{Claimed, Cut, Kept, Look, Offer, Pass, Take};
 pub use board::Board;
 pub use closing::finish;
 pub use history::replay;

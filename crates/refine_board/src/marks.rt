@@ -1,46 +1,77 @@
 //! Marks by place, last offers by party, and the changes of them.
-ghost use Rattle.std.specs.Prelude.{◌≡◌, ◌≢◌, ◌<◌, ◌≤◌, ◌+◌, ◌^◌, ◌++◌, ◌∷◌, [], ℕ, length, map, set, slice_index, slice_index_or, replicate, Some, None, IfOk};
+ghost use Rattle.std.specs.Prelude.{◌≡◌, ◌≢◌, ◌<◌, ◌≤◌, ◌+◌, ◌^◌, ◌++◌, ◌∷◌, ◌↔◌, [], ℕ, IsTrue, length, set, slice_index, slice_index_or, replicate, take, Some, None, IfOk, true, false};
+ghost use Rattle.std.specs.List.{All};
+ghost use Rattle.class_partition.specs.Classes.{IsNeeded};
 ghost use Rattle.refine_board.specs.declared.marks.Mark.TheVariants.{Open};
 ghost use Rattle.refine_board.specs.declared.marks.LastOffer.{LastOffer};
 ghost use Rattle.refine_board.specs.declared.journal.Step.TheVariants.{Already, Split};
-ghost use Rattle.refine_board.specs.States.{is_counted, lasting};
-ghost use Rattle.refine_board.specs.Running.{IsMarkedAt, reopened_marks};
+ghost use Rattle.refine_board.specs.States.{is_counted, is_open, is_open_at, lasting, lasting_marks, most_open, open_list};
+ghost use Rattle.refine_board.specs.Running.{IsMarkedAt, reopened_marks, uncounted};
 
 use crate::journal::{Entry, Journal, Step};
 use bit_rows::BitRow;
 use class_partition::{Classes, Needed};
 use std::alloc::{AllocError, Global};
-use verdict_stamp::Used;
+use verdict_stamp::{Used, Version};
 
 /// How far a needed pair is.
-#[derive(Clone, Copy, PartialEq, Eq)]
+#[derive(Drop)]
 pub enum Mark {
     /// Nobody has it.
     Open,
     /// It was given to a party.
     Out,
-    /// It is counted: it passes under the board's classes, by this.
-    Proved(Used),
+    /// It is counted, with this least place of its class: it passes under the board's classes, by this.
+    Proved(u32, Used),
 }
 
 impl Mark {
     /// Whether the pair is counted.
-    pub(crate) fn is_counted(self) -> bool
-        ensures { result ≡ is_counted self }
+    pub(crate) fn is_counted(&self) -> bool
+        ensures { result ≡ is_counted self.now }
     {
         match self {
-            Mark::Proved(_) => true,
+            Mark::Proved(_, _) => true,
             _ => false,
         }
     }
 
-    /// What a split of the classes leaves of it.
-    pub(crate) fn lasting(self) -> Mark
-        ensures { result ≡ lasting self }
+    /// Whether the pair is open.
+    pub(crate) fn is_open(&self) -> bool
+        ensures { result ≡ is_open self.now }
     {
         match self {
-            Mark::Proved(Used::Known(k)) => Mark::Proved(Used::Known(k)),
-            _ => Mark::Open,
+            Mark::Open => true,
+            _ => false,
+        }
+    }
+
+    /// Whether it is that of a pair that is out, or of one that is open.
+    pub(crate) fn is_uncounted(&self, out: bool) -> bool
+        ensures { IsTrue result ↔ (self.now ≡ uncounted out) }
+    {
+        match self {
+            Mark::Open => !out,
+            Mark::Out => out,
+            Mark::Proved(_, _) => false,
+        }
+    }
+
+    /// Whether the place stays counted after a split to these classes.
+    pub(crate) fn lasts(&self, classes: &Classes, place: u32) -> bool
+        requires place { place < length classes.now.least }
+        ensures stays { result ≡ true → lasting classes.now place self.now ≡ self.now }
+        ensures goes { result ≡ false → lasting classes.now place self.now ≡ Open }
+    {
+        match self {
+            Mark::Proved(_, Used::Known(_)) => true,
+            Mark::Proved(rep, Used::Pairs(pairs)) => {
+                if classes.rep(place) != *rep {
+                    return false;
+                }
+                pairs.are_together(classes)
+            }
+            _ => false,
         }
     }
 }
@@ -54,23 +85,58 @@ pub struct LastOffer {
     pub number: u32,
 }
 
-// The first needed place with this mark from `from` on, or the number of places.
-pub(crate) fn first_marked(classes: &Classes, marks: &[Mark], mark: Mark, from: u32) -> u32
+// The first needed place from `from` on whose pair is out, or open, or the number of places.
+pub(crate) fn first_marked(classes: &Classes, marks: &[Mark], out: bool, from: u32) -> u32
     requires lengths { length marks.now ≡ length classes.now.least }
     requires from { from ≤ length classes.now.least }
     ensures bounds { (from ≤ result) × (result ≤ length classes.now.least) }
-    ensures before { (m : ℕ) → from ≤ m → m < result → IsMarkedAt classes.now.least marks.now mark m → ⊥ }
-    ensures found { result < length classes.now.least → IsMarkedAt classes.now.least marks.now mark result }
+    ensures before { (m : ℕ) → from ≤ m → m < result → IsMarkedAt classes.now.least marks.now (uncounted out) m → ⊥ }
+    ensures found { result < length classes.now.least → IsMarkedAt classes.now.least marks.now (uncounted out) result }
 {
     let n = classes.len();
     let mut p = from;
     while p < n {
-        if classes.rep(p) != p && marks[p as usize] == mark {
+        if classes.rep(p) != p && marks[p as usize].is_uncounted(out) {
             break;
         }
         p += 1;
     }
     p
+}
+
+// So many pairs a version is published with at most: as many as the word counts.
+pub(crate) const MOST_OPEN: usize = (1 << 21) - 1;
+
+// Whether a place has an open pair.
+fn is_open_at(classes: &Classes, marks: &[Mark], p: u32) -> bool
+    requires lengths { length marks.now ≡ length classes.now.least }
+    requires place { p < length classes.now.least }
+    ensures { result ≡ is_open_at classes.now marks.now p }
+{
+    if classes.rep(p) == p {
+        return false;
+    }
+    marks[p as usize].is_open()
+}
+
+// The members of the needed pairs that are open, in their order; where they are more than the word counts, the first of them.
+pub(crate) fn open_members(
+    alloc: Global,
+    classes: &Classes,
+    marks: &[Mark],
+) -> Result<Vec<u32>, AllocError>
+    requires lengths { length marks.now ≡ length classes.now.least }
+    ensures open_ones { IfOk result (λ v. v.items ≡ take most_open (open_list classes.now marks.now)) }
+    ensures few { IfOk result (λ v. length v.items ≤ most_open) }
+    ensures members { IfOk result (λ v. All (IsNeeded (length classes.now.least) classes.now) v.items) }
+{
+    let mut members = Vec::new(alloc);
+    for p in 0..classes.len() {
+        if is_open_at(classes, marks, p) && members.len() < MOST_OPEN {
+            members.push(p)?;
+        }
+    }
+    Ok(members)
 }
 
 // Counts the party's call, and answers how many there were before.
@@ -165,19 +231,27 @@ pub(crate) fn release(
     if member < cursor { member } else { cursor }
 }
 
-// What a split leaves of all marks: the pairs that aren't known are open.
-pub(crate) fn reopen(marks: &mut Vec<Mark>)
-    ensures { marks.new.items ≡ map lasting marks.old.items }
+// What a split to a version's classes leaves of all marks: the pairs that don't stay counted are open.
+pub(crate) fn reopen(marks: &mut Vec<Mark>, version: &Version<'_>)
+    requires { length marks.old.items ≡ length version.now.classes.least }
+    ensures { marks.new.items ≡ lasting_marks version.now.classes marks.old.items }
 {
-    for i in 0..marks.len() {
-        marks[i] = marks[i].lasting();
+    let classes = version.classes();
+    for i in 0..classes.len() {
+        if !marks[i as usize].lasts(classes, i) {
+            marks[i as usize] = Mark::Open;
+        }
     }
 }
 
 pub(crate) fn open_marks(alloc: Global, places: u32) -> Result<Vec<Mark>, AllocError>
     ensures { IfOk result (λ v. v.items ≡ replicate places Open) }
 {
-    vec![in alloc; Mark::Open; places as usize]
+    let mut marks = Vec::new(alloc);
+    for _place in 0..places {
+        marks.push(Mark::Open)?;
+    }
+    Ok(marks)
 }
 
 pub(crate) fn no_calls(alloc: Global, parties: usize) -> Result<Vec<u64>, AllocError>

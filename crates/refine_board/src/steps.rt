@@ -1,36 +1,40 @@
 //! The steps of a board, one for each entry: each changes the state and writes its entry.
-ghost use Rattle.std.specs.Prelude.{◌≡◌, ◌≢◌, ◌<◌, ◌≤◌, ◌+◌, ◌^◌, ℕ, IsTrue, ◌↔◌, length, IfOk, IfSome, OnOk, OnErr, Some, true, false};
-ghost use Rattle.boxcar.specs.Table.{Shows};
+ghost use Rattle.std.specs.Prelude.{◌≡◌, ◌≢◌, ◌<◌, ◌≤◌, ◌+◌, ◌^◌, ℕ, IsTrue, ◌↔◌, length, take, IfOk, IfSome, OnOk, OnErr, Some, None, true, false};
 ghost use Rattle.circ_model.specs.Meaning.{places_of};
 ghost use Rattle.class_partition.specs.Classes.{AreOfGreatest, IsNeeded, class_count};
-ghost use Rattle.refine_board.specs.States.{IsCountedAt, IsNeededPair, IsOpen, NoneOpen, SomeOut, AllCounted};
-ghost use Rattle.refine_board.specs.Running.{Appends, AreCountedBelow, Counts, Frees, IsAbout, IsUnder, IsOf};
+ghost use Rattle.refine_board.specs.States.{IsCountedAt, IsNeededPair, IsOpen, IsOpenPair, NoneOpen, SomeOut, AllCounted, most_open, open_members};
+ghost use Rattle.refine_board.specs.Running.{Appends, AreCountedBelow, Counts, Frees, IsAbout, IsBegun, IsIssueOf, IsRunStamp, IsUnder, IsOf};
 ghost use Rattle.refine_board.specs.Closings.{IsClaimed};
-ghost use Rattle.refine_board.specs.Answers.{cut_step, stamp_after};
+ghost use Rattle.refine_board.specs.Answers.{cut_step, kept_step, stamp_after};
 ghost use Rattle.verdict_stamp.specs.Published.{IsStampOf};
 
-use crate::answers::{Cut, Debt, Offer};
+use crate::answers::{Cut, Debt, Kept, Offer};
 use crate::board::Board;
 use crate::journal::Step;
 use crate::marks::{
-    LastOffer, Mark, first_marked, note, note_already, note_split, release, reopen,
+    LastOffer, Mark, first_marked, note, note_already, note_split, open_members, release, reopen,
 };
 use crate::run::Run;
 use class_partition::Needed;
 use std::alloc::AllocError;
 use std::sync::Wait;
+use std::sync::ledger::Share;
 use verdict_stamp::{Stamp, Used, Vector, Verdict, Version};
 
+// So many versions a run publishes at most: as many as the word counts.
+const MOST_TURNS: u32 = (1 << 22) - 1;
+
 impl<'v, 'p, L: Run> Board<'v, 'p, L> {
-    // Makes room for an entry and its answer.
+    // Makes room for two entries, beside those that are owed.
     pub(crate) fn spare(&mut self) -> Result<(), AllocError>
         ensures state { self.new.state ≡ self.old.state }
         ensures entries { self.new.entries ≡ self.old.entries }
-        ensures current { self.new.current ≡ self.old.current }
-        ensures ok { OnOk result ((2 ≤ self.new.room) × (length self.old.entries < 2 ^ 60)) }
+        ensures owed { self.new.owed ≡ self.old.owed }
+        ensures published { (self.new.current ≡ self.old.current) × (self.new.seat ≡ self.old.seat) }
+        ensures ok { OnOk result ((2 ≤ self.new.room) × (self.new.owed < 2 ^ 60)) }
     {
         let waiting = self.waiting;
-        if self.journal.len() >= 1 << 60 || waiting >= 1 << 60 {
+        if waiting >= 1 << 60 {
             return Err(AllocError);
         }
         self.journal.reserve(waiting + 2)
@@ -53,7 +57,7 @@ impl<'v, 'p, L: Run> Board<'v, 'p, L> {
         ensures found { result < places_of L.pair → IsOpen (places_of L.pair) self.old.state result }
         ensures before { (m : ℕ) → m < result → IsOpen (places_of L.pair) self.old.state m → ⊥ }
     {
-        let at = first_marked(self.version.classes(), &self.marks, Mark::Open, self.cursor);
+        let at = first_marked(self.version.classes(), &self.marks, false, self.cursor);
         self.cursor = at;
         at
     }
@@ -64,7 +68,7 @@ impl<'v, 'p, L: Run> Board<'v, 'p, L> {
         ensures none { result ≡ false → NoneOpen (places_of L.pair) self.now.state }
     {
         let classes = self.version.classes();
-        first_marked(classes, &self.marks, Mark::Open, self.cursor) < classes.len()
+        first_marked(classes, &self.marks, false, self.cursor) < classes.len()
     }
 
     // Whether some pair is out.
@@ -73,7 +77,7 @@ impl<'v, 'p, L: Run> Board<'v, 'p, L> {
         ensures none { result ≡ false → NoneOpen (places_of L.pair) self.now.state → AllCounted (places_of L.pair) self.now.state }
     {
         let classes = self.version.classes();
-        first_marked(classes, &self.marks, Mark::Out, 0) < classes.len()
+        first_marked(classes, &self.marks, true, 0) < classes.len()
     }
 
     // Whether the vector is of the run's netlists and k.
@@ -97,28 +101,50 @@ impl<'v, 'p, L: Run> Board<'v, 'p, L> {
         Needed { rep, member }
     }
 
-    // The stamp of the version as it stands. Where it has none, a copy of it is published.
+    // Publishes a copy of the version as it stands, with its pairs that are open, and has the word begin with these.
+    pub(crate) fn publish(&mut self, rt: &impl Wait) -> Result<Stamp<'p>, AllocError>
+        ensures state { self.new.state ≡ self.old.state }
+        ensures entries { self.new.entries ≡ self.old.entries }
+        ensures room { (self.new.room ≡ self.old.room) × (self.new.owed ≡ self.old.owed) }
+        ensures begun { IsBegun self.old.seat self.new.seat }
+        ensures current { IfOk result (λ s. self.new.current ≡ Some s) }
+        ensures err { OnErr result ((self.new.current ≡ self.old.current) × (self.new.seat ≡ self.old.seat)) }
+        ensures issued { IfOk result (IsIssueOf L.pair L.k L.list self.old.state) }
+        ensures fresh { IfOk result (λ s. s.value.pending ≡ take most_open (open_members self.old.state)) }
+    {
+        if self.turn >= MOST_TURNS {
+            return Err(AllocError);
+        }
+        let turn = self.turn + 1;
+        let pending = open_members(self.alloc, self.version.classes(), &self.marks)?;
+        let pairs = pending.len() as u32;
+        let Ok(copy) = self.version.copy(self.alloc) else {
+            drop(pending);
+            return Err(AllocError);
+        };
+        let stamp = self.versions.push(rt, copy, pending, turn)?;
+        self.word.advance(&mut self.seat, turn, pairs);
+        self.turn = turn;
+        self.current = Some(stamp.copy());
+        Ok(stamp)
+    }
+
+    // The stamp of the version as it stands. Where it has none, it is published.
     pub(crate) fn published(&mut self, rt: &impl Wait) -> Result<Stamp<'p>, AllocError>
         ensures state { self.new.state ≡ self.old.state }
         ensures entries { self.new.entries ≡ self.old.entries }
-        ensures room { self.new.room ≡ self.old.room }
+        ensures room { (self.new.room ≡ self.old.room) × (self.new.owed ≡ self.old.owed) }
+        ensures begun { IsBegun self.old.seat self.new.seat }
         ensures current { IfOk result (λ s. self.new.current ≡ Some s) }
         ensures same { IfOk result (λ s. IfSome self.old.current (λ c. s ≡ c)) }
-        ensures err { OnErr result (self.new.current ≡ self.old.current) }
-        ensures listed { IfOk result (λ s. Shows L.list s) }
-        ensures under { IfOk result (λ s. IsUnder L.pair L.k self.old.state.classes s.value) }
-        ensures number { IfOk result (λ s. s.value.number ≡ self.old.state.number) }
+        ensures err { OnErr result ((self.new.current ≡ self.old.current) × (self.new.seat ≡ self.old.seat)) }
+        ensures issued { IfOk result (IsIssueOf L.pair L.k L.list self.old.state) }
+        ensures fresh { IfOk result (λ s. self.old.current ≡ None → s.value.pending ≡ take most_open (open_members self.old.state)) }
     {
         if let Some(stamp) = &self.current {
             return Ok(stamp.copy());
         }
-        let copy = self.version.copy(self.alloc)?;
-        let Ok(stamp) = self.versions.push(rt, copy) else {
-            return Err(AllocError);
-        };
-        let own = stamp.copy();
-        self.current = Some(own);
-        Ok(stamp)
+        self.publish(rt)
     }
 
     // Whether the board stands at a version of the run's list, of which this is the stamp.
@@ -144,18 +170,14 @@ impl<'v, 'p, L: Run> Board<'v, 'p, L> {
         classes.rep(pair.member) == pair.rep
     }
 
-    // Whether a version of the run's list is of the run's netlists and k, as the version of an offer is. Where the two have one
+    // Whether a version of the run's list is of the run's netlists and k, as that of a stamp of the run is. Where the two have one
     // stamp, nothing is compared.
-    pub(crate) fn is_own(
-        &self,
-        offer: &Offer<'p, L>,
-        stamp: &Stamp<'p>,
-        version: &Version<'_>,
-    ) -> bool
+    pub(crate) fn is_own(&self, own: &Stamp<'p>, stamp: &Stamp<'p>, version: &Version<'_>) -> bool
+        requires own { IsRunStamp L.pair L.k L.list own.now }
         requires stamp { IsStampOf L.list stamp.now version.now }
         ensures { IsTrue result ↔ ((version.now.pair ≡ L.pair) × (version.now.k ≡ L.k)) }
     {
-        if self.versions.same(offer.stamp(), stamp) {
+        if self.versions.same(own, stamp) {
             return true;
         }
         if version.k() != self.version.k() {
@@ -164,85 +186,142 @@ impl<'v, 'p, L: Run> Board<'v, 'p, L> {
         version.product().same(self.version.product())
     }
 
-    // Whether a verdict for an offer counts. Where it rests on what is known no classes are compared.
+    // Whether a pair is a needed one of the board's classes, and a version of the run's list is of the run's netlists and k.
+    fn needs_own(
+        &self,
+        pair: Needed,
+        own: &Stamp<'p>,
+        stamp: &Stamp<'p>,
+        version: &Version<'_>,
+    ) -> bool
+        requires pair { pair.rep ≢ pair.member }
+        requires own { IsRunStamp L.pair L.k L.list own.now }
+        requires stamp { IsStampOf L.list stamp.now version.now }
+        ensures { IsTrue result ↔ (IsNeededPair (places_of L.pair) self.now.state.classes pair × (version.now.pair ≡ L.pair) × (version.now.k ≡ L.k)) }
+    {
+        if !self.needs(pair) {
+            return false;
+        }
+        self.is_own(own, stamp, version)
+    }
+
+    // Whether a verdict for a pair counts that was sought under a stamp of the run. Classes are compared only where it rests on those of its
+    // version.
     pub(crate) fn counts(
         &self,
-        offer: &Offer<'p, L>,
+        pair: Needed,
+        own: &Stamp<'p>,
         verdict: &Verdict<'_, '_>,
         stamp: &Stamp<'p>,
     ) -> bool
-        requires about { IsAbout verdict.now offer.now.pair }
+        requires own { IsRunStamp L.pair L.k L.list own.now }
+        requires about { IsAbout verdict.now pair }
         requires stamp { IsStampOf L.list stamp.now verdict.now.version }
         ensures { IsTrue result ↔ Counts L.pair L.k self.now.state.classes verdict.now }
     {
         match verdict.used() {
             Used::Version => self.stands_at(stamp, verdict.version()),
-            Used::Known(_) => {
-                if !self.needs(offer.pair()) {
+            Used::Pairs(pairs) => {
+                if !self.needs_own(pair, own, stamp, verdict.version()) {
                     return false;
                 }
-                self.is_own(offer, stamp, verdict.version())
+                pairs.are_together(self.version.classes())
             }
+            Used::Known(_) => self.needs_own(pair, own, stamp, verdict.version()),
         }
     }
 
-    // Gives the first open place to a party, which owes its answer.
-    pub(crate) fn lend(&mut self, party: u32, member: u32) -> Debt<L>
-        requires party { party < L.workers + 1 }
-        requires is_open { IsOpen (places_of L.pair) self.old.state member }
-        requires first { (m : ℕ) → m < member → IsOpen (places_of L.pair) self.old.state m → ⊥ }
-        requires room { 2 ≤ self.old.room }
-        requires few { length self.old.entries < 2 ^ 60 }
-        ensures step { Appends (places_of L.pair) self.old self.new party (Step.Offered result.pair) }
-        ensures party { result.party ≡ party }
-        ensures number { result.number ≡ self.old.state.number }
-        ensures member { result.pair.member ≡ member }
-        ensures room { self.new.room + 2 ≡ self.old.room }
-        ensures current { self.new.current ≡ self.old.current }
+    // Takes a unit for each of so many entries, whose room is kept for them.
+    pub(crate) fn owe(&mut self, many: usize) -> Share<L>
+        requires some { (0 < many) × (many ≤ 2) }
+        requires room { many ≤ self.old.room }
+        requires few { self.old.owed < 2 ^ 60 }
+        ensures unit { (result.amount ≡ many) × (result.parts ≡ many) }
+        ensures state { self.new.state ≡ self.old.state }
+        ensures entries { self.new.entries ≡ self.old.entries }
+        ensures room { self.new.room + many ≡ self.old.room }
+        ensures published { (self.new.current ≡ self.old.current) × (self.new.seat ≡ self.old.seat) }
     {
-        let _written = self.journal.len();
-        let pair = self.pair_at(member);
+        let Board {
+            owed,
+            rest,
+            waiting,
+            ..
+        } = self;
+        *waiting += many;
+        let mut unit = rest.split_off(many as u64, 0);
+        owed.add(&mut unit, many as u64);
+        unit
+    }
+
+    // Takes units back: their room is free for entries.
+    pub(crate) fn repay(&mut self, unit: Share<L>, many: usize)
+        requires unit { (unit.amount ≡ many) × (unit.parts ≡ many) }
+        ensures state { self.new.state ≡ self.old.state }
+        ensures entries { self.new.entries ≡ self.old.entries }
+        ensures room { self.new.room ≡ self.old.room + many }
+        ensures published { (self.new.current ≡ self.old.current) × (self.new.seat ≡ self.old.seat) }
+    {
+        let Board {
+            owed,
+            rest,
+            waiting,
+            ..
+        } = self;
+        let mut unit = unit;
+        owed.audit(&mut unit);
+        owed.sub(&mut unit, many as u64);
+        *waiting -= many;
+        rest.merge(unit);
+    }
+
+    // Writes that a party is offered an open pair.
+    pub(crate) fn hand(&mut self, party: u32, pair: Needed)
+        requires party { party < L.workers + 1 }
+        requires is_open { IsOpenPair (places_of L.pair) self.old.state pair }
+        requires room { 1 ≤ self.old.room }
+        ensures step { Appends (places_of L.pair) self.old self.new party (Step.Offered pair) }
+        ensures room { self.new.room + 1 ≡ self.old.room }
+        ensures owed { self.new.owed ≡ self.old.owed }
+        ensures published { (self.new.current ≡ self.old.current) × (self.new.seat ≡ self.old.seat) }
+    {
         let number = self.version.number();
         let Board {
             marks,
             calls,
             offers,
             journal,
-            owed,
-            rest,
-            waiting,
             ..
         } = self;
         marks[pair.member as usize] = Mark::Out;
         offers[party as usize] = Some(LastOffer { pair, number });
         note(calls, journal, party, Step::Offered(pair));
-        *waiting += 1;
-        let mut unit = rest.split_off(1, 0);
-        owed.add(&mut unit, 1);
-        Debt {
+    }
+
+    // Offers an open place, under a stamp of the board's version. The party owes the answer.
+    pub(crate) fn offer(&mut self, party: u32, member: u32, stamp: Stamp<'p>) -> Offer<'p, L>
+        requires party { party < L.workers + 1 }
+        requires is_open { IsOpen (places_of L.pair) self.old.state member }
+        requires issued { IsIssueOf L.pair L.k L.list self.old.state stamp }
+        requires room { 2 ≤ self.old.room }
+        requires few { self.old.owed < 2 ^ 60 }
+        ensures step { Appends (places_of L.pair) self.old self.new party (Step.Offered result.pair) }
+        ensures party { result.party ≡ party }
+        ensures number { result.number ≡ self.old.state.number }
+        ensures member { result.pair.member ≡ member }
+        ensures stamp { result.stamp ≡ stamp.entry }
+        ensures published { (self.new.current ≡ self.old.current) × (self.new.seat ≡ self.old.seat) }
+    {
+        let pair = self.pair_at(member);
+        let number = self.version.number();
+        self.hand(party, pair);
+        let unit = self.owe(1);
+        let debt = Debt {
             party,
             pair,
             number,
             unit,
-        }
-    }
-
-    // Offers the first open place, under a stamp of the board's version.
-    pub(crate) fn offer(&mut self, party: u32, member: u32, stamp: Stamp<'p>) -> Offer<'p, L>
-        requires party { party < L.workers + 1 }
-        requires is_open { IsOpen (places_of L.pair) self.old.state member }
-        requires first { (m : ℕ) → m < member → IsOpen (places_of L.pair) self.old.state m → ⊥ }
-        requires listed { Shows L.list stamp }
-        requires under { IsUnder L.pair L.k self.old.state.classes stamp.value }
-        requires room { 2 ≤ self.old.room }
-        requires few { length self.old.entries < 2 ^ 60 }
-        ensures step { Appends (places_of L.pair) self.old self.new party (Step.Offered result.pair) }
-        ensures party { result.party ≡ party }
-        ensures number { result.number ≡ self.old.state.number }
-        ensures stamp { result.stamp ≡ stamp.entry }
-        ensures current { self.new.current ≡ self.old.current }
-    {
-        let debt = self.lend(party, member);
+        };
         Offer { debt, stamp }
     }
 
@@ -253,7 +332,7 @@ impl<'v, 'p, L: Run> Board<'v, 'p, L> {
         requires out { SomeOut (places_of L.pair) self.old.state }
         requires room { 1 ≤ self.old.room }
         ensures step { Appends (places_of L.pair) self.old self.new party Step.Idle }
-        ensures current { self.new.current ≡ self.old.current }
+        ensures published { (self.new.current ≡ self.old.current) × (self.new.seat ≡ self.old.seat) }
     {
         note(&mut self.calls, &mut self.journal, party, Step::Idle);
     }
@@ -264,7 +343,7 @@ impl<'v, 'p, L: Run> Board<'v, 'p, L> {
         requires all { AllCounted (places_of L.pair) self.old.state }
         requires room { 1 ≤ self.old.room }
         ensures step { Appends (places_of L.pair) self.old self.new party Step.Done }
-        ensures current { self.new.current ≡ self.old.current }
+        ensures published { (self.new.current ≡ self.old.current) × (self.new.seat ≡ self.old.seat) }
     {
         note(&mut self.calls, &mut self.journal, party, Step::Done);
     }
@@ -274,20 +353,17 @@ impl<'v, 'p, L: Run> Board<'v, 'p, L> {
         ensures state { self.new.state ≡ self.old.state }
         ensures entries { self.new.entries ≡ self.old.entries }
         ensures room { self.new.room ≡ self.old.room + 1 }
-        ensures current { self.new.current ≡ self.old.current }
+        ensures published { (self.new.current ≡ self.old.current) × (self.new.seat ≡ self.old.seat) }
         ensures party { (result.0 ≡ debt.party) × (result.0 < L.workers + 1) }
         ensures pair { result.1 ≡ debt.pair }
     {
         let Debt {
             party,
             pair,
-            mut unit,
+            unit,
             ..
         } = debt;
-        let Board { owed, waiting, .. } = self;
-        owed.audit(&mut unit);
-        owed.sub(&mut unit, 1);
-        *waiting -= 1;
+        self.repay(unit, 1);
         (party, pair)
     }
 
@@ -297,7 +373,7 @@ impl<'v, 'p, L: Run> Board<'v, 'p, L> {
         requires frees { Frees L.pair L.k self.old.state step }
         requires room { 1 ≤ self.old.room }
         ensures step { Appends (places_of L.pair) self.old self.new party step }
-        ensures current { self.new.current ≡ self.old.current }
+        ensures published { (self.new.current ≡ self.old.current) × (self.new.seat ≡ self.old.seat) }
     {
         let Board {
             version,
@@ -313,17 +389,17 @@ impl<'v, 'p, L: Run> Board<'v, 'p, L> {
     }
 
     // The pair is counted, by what the verdict rests on.
-    pub(crate) fn count(&mut self, party: u32, pair: Needed, verdict: &Verdict<'_, '_>)
+    pub(crate) fn count(&mut self, party: u32, pair: Needed, verdict: Verdict<'_, '_>)
         requires party { party < L.workers + 1 }
-        requires about { IsAbout verdict.now pair }
-        requires counts { Counts L.pair L.k self.old.state.classes verdict.now }
+        requires about { IsAbout verdict pair }
+        requires counts { Counts L.pair L.k self.old.state.classes verdict }
         requires room { 1 ≤ self.old.room }
-        ensures step { Appends (places_of L.pair) self.old self.new party (Step.Counted pair verdict.now.used) }
-        ensures current { self.new.current ≡ self.old.current }
+        ensures step { Appends (places_of L.pair) self.old self.new party (Step.Counted pair verdict.entry.used) }
+        ensures published { (self.new.current ≡ self.old.current) × (self.new.seat ≡ self.old.seat) }
     {
         let _own = self.version.product();
         let _found = verdict.version().product();
-        let used = verdict.used();
+        let (used, again) = verdict.into_used();
         let Board {
             marks,
             calls,
@@ -331,19 +407,45 @@ impl<'v, 'p, L: Run> Board<'v, 'p, L> {
             journal,
             ..
         } = self;
-        marks[pair.member as usize] = Mark::Proved(used);
+        marks[pair.member as usize] = Mark::Proved(pair.rep, used);
         offers[party as usize] = None;
-        note(calls, journal, party, Step::Counted(pair, used));
+        note(calls, journal, party, Step::Counted(pair, again));
     }
 
-    // Splits the classes by a vector of the run, after which each needed pair is open that isn't known; or it splits none.
+    // Counts a pair whose verdict counts, and else writes that it is outdated.
+    pub(crate) fn enter(
+        &mut self,
+        party: u32,
+        pair: Needed,
+        verdict: Verdict<'_, '_>,
+        counts: bool,
+    ) -> Kept
+        requires party { party < L.workers + 1 }
+        requires about { IsAbout verdict pair }
+        requires counts { counts ≡ true → Counts L.pair L.k self.old.state.classes verdict }
+        requires room { 1 ≤ self.old.room }
+        ensures step { Appends (places_of L.pair) self.old self.new party (kept_step result pair verdict.entry.used) }
+        ensures published { (self.new.current ≡ self.old.current) × (self.new.seat ≡ self.old.seat) }
+        ensures counted { result ≡ Kept.Counted → counts ≡ true }
+        ensures stale { result ≡ Kept.Stale → counts ≡ false }
+    {
+        if counts {
+            self.count(party, pair, verdict);
+            return Kept::Counted;
+        }
+        drop(verdict);
+        self.free(party, Step::Stale(pair));
+        Kept::Stale
+    }
+
+    // Splits the classes by a vector of the run, after which each needed pair is open that doesn't stay counted; or it splits none.
     pub(crate) fn cut(&mut self, party: u32, vector: Vector<'_>) -> Cut
         requires party { party < L.workers + 1 }
         requires own { IsOf L.pair L.k vector }
         requires room { 1 ≤ self.old.room }
         ensures step { Appends (places_of L.pair) self.old self.new party (cut_step result vector.entry.bits) }
         ensures own { result ≢ Cut.Foreign }
-        ensures current { self.new.current ≡ stamp_after result self.old.current }
+        ensures current { (self.new.current ≡ stamp_after result self.old.current) × (self.new.seat ≡ self.old.seat) }
         ensures stays { AreOfGreatest L.pair L.k self.old.state.classes → self.new.state.classes ≡ self.old.state.classes }
     {
         let Board {
@@ -365,7 +467,7 @@ impl<'v, 'p, L: Run> Board<'v, 'p, L> {
         }
         *current = None;
         *cursor = 0;
-        reopen(marks);
+        reopen(marks, version);
         offers[party as usize] = None;
         note_split(calls, journal, party, bits, added);
         Cut::Split(added)
@@ -377,7 +479,7 @@ impl<'v, 'p, L: Run> Board<'v, 'p, L> {
         ensures yes { result ≡ true → IsOpen (places_of L.pair) self.now.state member }
         ensures no { result ≡ false → IsOpen (places_of L.pair) self.now.state member → ⊥ }
     {
-        self.marks[member as usize] == Mark::Open
+        self.marks[member as usize].is_uncounted(false)
     }
 
     // Whether the place has a needed pair that isn't counted.
@@ -400,15 +502,13 @@ impl<'v, 'p, L: Run> Board<'v, 'p, L> {
         requires wanted { IsCountedAt self.old.state pair.member → ⊥ }
         requires below { AreCountedBelow (places_of L.pair) self.old.state pair.member }
         requires room { 2 ≤ self.old.room }
-        requires few { length self.old.entries < 2 ^ 60 }
         ensures claimed { IsClaimed (places_of L.pair) party self.old self.new pair }
         ensures below { AreCountedBelow (places_of L.pair) self.new.state pair.member }
         ensures room { 1 ≤ self.new.room }
     {
         let _places = self.places();
         if self.is_open_at(pair.member) {
-            let debt = self.lend(party, pair.member);
-            self.settle(debt);
+            self.hand(party, pair);
         }
     }
 }

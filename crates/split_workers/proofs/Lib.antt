@@ -1,2 +1,1 @@
 mod Reported
-mod Held

@@ -1,5 +1,5 @@
-//! Workers that refine one partition at once: each takes pairs from a board behind a lock, settles them outside it, by turns at one
-//! prover or, where the question is over a large cone, by a solver of its own, and answers. Whatever their schedule, they end at the
+//! Workers that refine one partition at once: each claims pairs from a word, settles them by turns at one prover or, where the question
+//! is over a large cone, by a solver of its own, and answers at a board behind a lock. Whatever their schedule, they end at the
 //! classes of the greatest correspondence.
 #![tactic(auto)]
 

@@ -5,7 +5,7 @@ ghost use Rattle.prover_table.specs.Tables.{IsFoundFor};
 use crate::room::Room;
 use bell::{Bell, Locked};
 use prover_table::{Lent, Table};
-use refine_board::{Offer, Run};
+use refine_board::{Claimed, Run};
 use std::alloc::{AllocError, Global};
 use std::sync::Wait;
 use std::sync::ledger::Ledger;
@@ -76,18 +76,18 @@ impl<'r, 'v, 'p, L: Run> Place<'r, 'v, 'p, L> {
         self.turn = Some(self.at_table(rt));
     }
 
-    /// Settles an offered pair as far as the table shows it.
+    /// Settles a claimed pair as far as the table shows it.
     pub(crate) fn settle(
         &mut self,
         rt: &impl Wait,
-        offer: &Offer<'p, L>,
+        claimed: &Claimed<'p, L>,
     ) -> Result<Proof<'v, 'p>, Halt>
-        ensures { IfOk result (IsFoundFor L.pair L.k offer.now) }
+        ensures { IfOk result (IsFoundFor L.pair L.k claimed.now) }
     {
         let mut table = self.at_table(rt);
         let found = table
             .value()
-            .settle(self.alloc, self.lent, &mut self.asker, offer);
+            .settle(self.alloc, self.lent, &mut self.asker, claimed);
         self.due = table.value().is_due();
         self.turn = Some(table);
         found
@@ -106,7 +106,7 @@ impl<'r, 'v, 'p, L: Run> Place<'r, 'v, 'p, L> {
         before
     }
 
-    /// Lets the turn go, and sleeps while a worker is still settling the offer with this member.
+    /// Lets the turn go, and sleeps while a worker is still settling the pair with this member.
     pub(crate) fn wait_for(&mut self, rt: &impl Wait, party: u32, member: u32) {
         self.turn = None;
         self.table
@@ -119,7 +119,7 @@ impl<'r, 'v, 'p, L: Run> Place<'r, 'v, 'p, L> {
         self.asker.solve(self.alloc)
     }
 
-    /// Takes the answer in that solving came to. Where memory ran out the worker gives its offer up, for which others may wait.
+    /// Takes the answer in that solving came to. Where memory ran out the worker gives its pair up, for which others may wait.
     pub(crate) fn take_answer(
         &mut self,
         rt: &impl Wait,

@@ -1,5 +1,6 @@
 //! A run of several workers, from the opening to the classes of the greatest correspondence.
-ghost use Rattle.std.specs.Prelude.{◌≡◌, ◌<◌, ◌≤◌, ◌*◌, ◌^◌, IfOk, IfSome};
+ghost use Rattle.std.specs.Prelude.{◌≡◌, ◌<◌, ◌≤◌, ◌*◌, ◌^◌, IfOk, IfSome, true};
+ghost use Rattle.claim_word.specs.Words.{version_of};
 ghost use Rattle.refine_board.specs.Schedules.{opened};
 ghost use Rattle.prover_table.specs.Tables.{IsKnownFor, IsMemoryFor};
 ghost use Rattle.work_desk.specs.Seats.{HasEnded};
@@ -11,6 +12,7 @@ use crate::earlier::Earlier;
 use crate::report::{WorkReport, reports_of};
 use crate::room::Room;
 use crate::worker::work;
+use claim_word::ClaimWord;
 use product_machine::Product;
 use prover_table::Lent;
 use refine_board::{Board, Journal, Run};
@@ -35,11 +37,13 @@ pub struct Refined<'p> {
     pub reports: Vec<WorkReport>,
 }
 
-// What a run begins with: the list that it publishes its versions in, its first version, the classes of an earlier k where they
-// are known, and how many workers it has.
+// What a run begins with: the list that it publishes its versions in, the word from which their pairs are claimed, with the board's
+// seat, its first version, the classes of an earlier k where they are known, and how many workers it has.
 #[derive(Drop)]
 struct Beginning<'v, 'p> {
     versions: &'v Versions<'p>,
+    word: &'v ClaimWord,
+    seat: claim_word::Seat,
     first: Version<'p>,
     known: Option<&'v Known<'p>>,
     workers: u32,
@@ -62,18 +66,20 @@ fn refine_named<
     memory: &mut Option<ProverMemory<'p>>,
     gate: &G,
 ) -> Result<Refined<'p>, AllocError>
-    requires name { (blanks.offers.name ≡ L.name) × (blanks.offers.parts ≡ L.parts) }
+    requires name { (blanks.entries.name ≡ L.name) × (blanks.entries.parts ≡ L.parts) }
     requires parts { 2 ^ 62 ≤ L.parts }
     requires ends_name { blanks.ends.name ≡ E.name }
     requires ends_parts { (blanks.ends.parts ≡ E.parts) × (E.parts ≡ beginning.workers) }
-    requires owed_name { blanks.owed.name ≡ O.name }
-    requires owed_parts { (blanks.owed.parts ≡ O.parts) × (O.parts ≡ beginning.workers * 2) }
+    requires seats_name { blanks.seats.name ≡ O.name }
+    requires seats_parts { (blanks.seats.parts ≡ O.parts) × (O.parts ≡ beginning.workers * 2) }
     requires product { beginning.first.pair ≡ L.pair }
     requires k { beginning.first.k ≡ L.k }
     requires workers { beginning.workers ≡ L.workers }
     requires some { (0 < beginning.workers) × (beginning.workers ≤ 64) }
     requires opening { L.opening ≡ opened L.pair L.workers beginning.first.classes beginning.first.number }
     requires list { L.list ≡ beginning.versions.now }
+    requires word { L.word ≡ beginning.word.now }
+    requires board_seat { (beginning.seat.word ≡ beginning.word.now) × (beginning.seat.board ≡ true) × (version_of beginning.seat.written ≡ 0) }
     requires earlier { IfSome beginning.known (λ n. IsKnownFor L.pair L.k n.now) }
     requires memory { IfSome memory.old (IsMemoryFor L.pair L.k) }
     ensures outcome { IfOk result (λ r. IsOutcome L.pair L.k L.workers L.opening r.version r.journal.entries) }
@@ -82,14 +88,20 @@ fn refine_named<
 {
     let Beginning {
         versions,
+        word,
+        seat,
         first,
         known,
         workers,
     } = beginning;
     let places = first.classes().len();
-    let Blanks { offers, ends, owed } = blanks;
-    let (ledgers, seats) = seats::<E, O>(alloc, ends, owed, workers)?;
-    let board = Board::open(alloc, offers, versions, first, workers)?;
+    let Blanks {
+        entries,
+        ends,
+        seats: parts,
+    } = blanks;
+    let (ledgers, seats) = seats::<E, O>(alloc, ends, parts, workers)?;
+    let board = Board::open(alloc, entries, versions, word, seat, first, workers)?;
     let lent = Lent::new(versions, known, places, workers);
     let room = Room::<L, E, O>::new(Desk::new(board, ledgers), lent, memory.take());
     let shared = &room;
@@ -98,7 +110,7 @@ fn refine_named<
         seats,
         &|seat: Seat<E, O>| -> Option<Seat<E, O>>
             requires party { seat.party < L.workers }
-            requires fresh { (seat.ended ≡ 0) × (seat.owed ≡ 0) }
+            requires fresh { seat.ended ≡ 0 }
             ensures { IfSome result (HasEnded seat.party) }
         { work(rt, alloc, shared, gate, seat) },
     )?;
@@ -146,16 +158,22 @@ fn refine_from<'p, R: Threads + Wait + Sync, G: Gate>(
         drop(first);
         return Err(AllocError);
     };
+    let Ok((word, seat)) = ClaimWord::new(alloc, 0) else {
+        drop(first);
+        return Err(AllocError);
+    };
     refine_named::<Brand, Brand, Brand, R, G>(
         rt,
         alloc,
         Blanks {
-            offers: Blank::new(1 << 62),
+            entries: Blank::new(1 << 62),
             ends: Blank::new(workers as u64),
-            owed: Blank::new(workers as u64 * 2),
+            seats: Blank::new(workers as u64 * 2),
         },
         Beginning {
             versions: &versions,
+            word: &word,
+            seat,
             first,
             known,
             workers,

@@ -1,21 +1,21 @@
-//! A worker: it asks for a pair, settles it when it has the turn at the table, and answers, until each pair is counted or memory runs
-//! out. Questions over large cones it solves away from the table. Pairs that it finds apart it answers together, since each split
-//! opens all pairs again.
+//! A worker: it asks for a pass, claims a pair for it, settles it when it has the turn at the table, and answers, until each pair is
+//! counted or memory runs out. Questions over large cones it solves away from the table. Pairs that it finds apart it answers together,
+//! since each split publishes the version anew.
 ghost use Rattle.std.specs.Prelude.{◌≡◌, ◌<◌, IfOk, IfSome, true};
 ghost use Rattle.prover_table.specs.Tables.{IsFoundFor};
 ghost use Rattle.work_desk.specs.Seats.{HasEnded};
-ghost use Rattle.split_workers.specs.Workers.{IsAtWork, IsTold, laden};
+ghost use Rattle.split_workers.specs.Workers.{IsAtWork, IsTold};
 
 use crate::place::Place;
 use crate::room::Room;
-use refine_board::{Offer, Run};
+use refine_board::{Claimed, Pass, Run};
 use sec_base::Gate;
 use std::alloc::{AllocError, Global};
 use std::marker::Model;
 use std::sync::Wait;
 use std::sync::ledger::Ledger;
-use verdict_stamp::{Halt, Proof};
-use work_desk::{Asked, Caller, Seat, Separated};
+use verdict_stamp::{Halt, Proof, Versions};
+use work_desk::{Asked, Caller, Request, Seat, Separated, Ticket};
 
 // So many vectors a worker holds at most, where places are few. Each splits the classes for all, so one that holds many has itself and
 // others prove pairs in vain, and finds pairs apart by rows that it holds already.
@@ -31,48 +31,32 @@ fn most_of(places: u32) -> usize {
     MOST.max(places / EACH).min((1u64 << 31) / (places + 1)) as usize
 }
 
-/// A worker, with its place at the table, and the offers that it holds, each with a vector that answers it.
+/// A worker, with its place at the table, the pairs that it found apart, each with a vector, and the claim that it holds, if its version
+/// came after that of the pass which it was to be answered by.
 #[derive(Drop)]
 pub(crate) struct Worker<'r, 'v, 'p, L: Run, E: Ledger, O: Ledger, G: Gate> {
     desk: Caller<'r, 'v, 'p, L, E, O, G>,
     place: Place<'r, 'v, 'p, L>,
+    versions: &'v Versions<'p>,
+    ticket: Option<Ticket>,
     pocket: Vec<Separated<'p, L>>,
     most: usize,
 }
 
 impl<'r, 'v, 'p, L: Run, E: Ledger, O: Ledger, G: Gate> Model for Worker<'r, 'v, 'p, L, E, O, G> {
-    ghost use Rattle.std.specs.Prelude.{length};
-    ghost use Rattle.split_workers.specs.Workers.{AreHeld, Laden, laden};
+    ghost use Rattle.std.specs.Prelude.{◌≡◌};
+    ghost use Rattle.split_workers.specs.Workers.{Working, working};
 
-    ghost Value = { Laden };
+    ghost Value = { Working };
 
-    ghost view = { λ w. laden w.desk (length w.pocket.items) };
+    ghost view = { λ w. working w.desk };
 
-    ghost invariant = { λ w. AreHeld w.desk.party w.pocket.items };
+    ghost invariant = { λ w. w.versions.now ≡ L.list };
 }
 
 impl<'r, 'v, 'p, L: Run, E: Ledger, O: Ledger, G: Gate> Worker<'r, 'v, 'p, L, E, O, G> {
-    // A worker that holds nothing.
-    fn new(
-        alloc: Global,
-        desk: Caller<'r, 'v, 'p, L, E, O, G>,
-        place: Place<'r, 'v, 'p, L>,
-        most: usize,
-    ) -> Worker<'r, 'v, 'p, L, E, O, G>
-        ensures { result ≡ laden desk.entry 0 }
-    {
-        Worker {
-            desk,
-            place,
-            pocket: Vec::new(alloc),
-            most,
-        }
-    }
-
     fn into_seat(self) -> Seat<E, O>
-        ensures party { result.party ≡ self.entry.party }
-        ensures ended { result.ended ≡ self.entry.ended }
-        ensures owed { result.owed ≡ self.entry.owed }
+        ensures { (result.party ≡ self.entry.party) × (result.ended ≡ self.entry.ended) }
     {
         let Worker {
             desk,
@@ -93,15 +77,15 @@ impl<'r, 'v, 'p, L: Run, E: Ledger, O: Ledger, G: Gate> Worker<'r, 'v, 'p, L, E,
         self.pocket.len() > self.most || (self.place.is_due() && self.is_holding())
     }
 
-    // Waits until there is something to do.
-    fn wait(&mut self, rt: &impl Wait)
+    // Waits until there is something to do, where the version whose word stood so has no pair left.
+    fn wait(&mut self, rt: &impl Wait, word: u64)
         ensures { self.new ≡ self.old }
     {
         self.place.let_go();
-        self.desk.wait(rt);
+        self.desk.wait(rt, word);
     }
 
-    // Lets those have their turn who have an offer in hand.
+    // Lets those have their turn who have a pair in hand.
     fn give_way(&mut self, rt: &impl Wait)
         ensures { self.new ≡ self.old }
     {
@@ -118,24 +102,68 @@ impl<'r, 'v, 'p, L: Run, E: Ledger, O: Ledger, G: Gate> Worker<'r, 'v, 'p, L, E,
 
     // Asks for work.
     fn ask(&mut self, rt: &impl Wait) -> Asked<'p, L>
-        requires { IsAtWork self.old.party 0 self.old }
-        ensures { IsTold self.old.party self.new result }
+        requires { IsAtWork self.old.party self.old }
+        ensures { IsTold L.workers self.old.party self.new result }
     {
-        let has_turn = self.place.has_turn();
-        self.desk.ask(rt, self.pocket.last(), has_turn)
+        let request = Request {
+            has_turn: self.place.has_turn(),
+            is_holding: self.ticket.is_some(),
+        };
+        self.desk.ask(rt, self.pocket.last(), request)
     }
 
-    // Settles an offered pair as far as the table shows it, for which it waits if it hasn't the turn.
-    fn find(&mut self, rt: &impl Wait, offer: &Offer<'p, L>) -> Result<Proof<'v, 'p>, Halt>
+    // Gives a pass back.
+    fn give_back(&mut self, rt: &impl Wait, pass: Pass<'p, L>)
+        ensures { self.new ≡ self.old }
+    {
+        let has_turn = self.place.has_turn();
+        self.desk.give_back(rt, pass, has_turn);
+    }
+
+    // The claim that it holds, or else one that it makes; and whether it held it.
+    fn claim(&mut self, rt: &impl Wait) -> Option<(Ticket, bool)>
+        ensures { self.new ≡ self.old }
+    {
+        if let Some(ticket) = self.ticket.take() {
+            return Some((ticket, true));
+        }
+        let ticket = self.desk.claim(rt)?;
+        Some((ticket, false))
+    }
+
+    // The pair that it claims for a pass. Where there is none left, or it is of another version, the pass goes back; a new claim is kept
+    // for another pass.
+    fn take_up(&mut self, rt: &impl Wait, pass: Pass<'p, L>) -> Option<Claimed<'p, L>>
         ensures kept { self.new ≡ self.old }
-        ensures found { IfOk result (IsFoundFor L.pair L.k offer.now) }
+        ensures party { IfSome result (λ c. c.party ≡ pass.entry.party) }
+    {
+        let Some((ticket, was_held)) = self.claim(rt) else {
+            self.give_back(rt, pass);
+            return None;
+        };
+        match self.desk.take_up(self.versions, pass, ticket) {
+            Ok(claimed) => Some(claimed),
+            Err(pass) => {
+                if !was_held {
+                    self.ticket = Some(ticket);
+                }
+                self.give_back(rt, pass);
+                None
+            }
+        }
+    }
+
+    // Settles a claimed pair as far as the table shows it, for which it waits if it hasn't the turn.
+    fn find(&mut self, rt: &impl Wait, claimed: &Claimed<'p, L>) -> Result<Proof<'v, 'p>, Halt>
+        ensures kept { self.new ≡ self.old }
+        ensures found { IfOk result (IsFoundFor L.pair L.k claimed.now) }
     {
         let Worker { desk, place, .. } = self;
         if !place.has_turn() {
             place.take_turn(rt);
             desk.came(rt);
         }
-        place.settle(rt, offer)
+        place.settle(rt, claimed)
     }
 
     // Away from the table solves the question that is put aside; or, where it rests on a lower pair that another is settling, waits
@@ -157,13 +185,17 @@ impl<'r, 'v, 'p, L: Run, E: Ledger, O: Ledger, G: Gate> Worker<'r, 'v, 'p, L, E,
         place.take_answer(rt, party, solved)
     }
 
-    // Settles an offered pair.
-    fn settle(&mut self, rt: &impl Wait, offer: &Offer<'p, L>) -> Result<Proof<'v, 'p>, AllocError>
+    // Settles a claimed pair.
+    fn settle(
+        &mut self,
+        rt: &impl Wait,
+        claimed: &Claimed<'p, L>,
+    ) -> Result<Proof<'v, 'p>, AllocError>
         ensures kept { self.new ≡ self.old }
-        ensures found { IfOk result (IsFoundFor L.pair L.k offer.now) }
+        ensures found { IfOk result (IsFoundFor L.pair L.k claimed.now) }
     {
         for _turn in rt.forever() {
-            match self.find(rt, offer) {
+            match self.find(rt, claimed) {
                 Ok(proof) => return Ok(proof),
                 Err(Halt::Memory) => return Err(AllocError),
                 Err(Halt::Posed) => self.solve(rt)?,
@@ -172,83 +204,89 @@ impl<'r, 'v, 'p, L: Run, E: Ledger, O: Ledger, G: Gate> Worker<'r, 'v, 'p, L, E,
         unreachable!()
     }
 
-    // Answers that an offered pair holds, or puts the offer into the pocket with a vector. Where memory ran out the offer goes back.
-    fn answer(&mut self, rt: &impl Wait, offer: Offer<'p, L>) -> Result<(), AllocError>
-        requires party { offer.party ≡ self.old.party }
-        requires hand { IsAtWork self.old.party 1 self.old }
-        ensures { IsAtWork self.old.party 0 self.new }
+    // Answers that a claimed pair holds, or puts it into the pocket with a vector. Where memory ran out its pass goes back.
+    fn answer(&mut self, rt: &impl Wait, claimed: Claimed<'p, L>) -> Result<(), AllocError>
+        requires party { claimed.party < L.workers }
+        ensures { self.new ≡ self.old }
     {
         self.desk.works();
-        match self.settle(rt, &offer) {
+        match self.settle(rt, &claimed) {
             Ok(Proof::Holds(verdict)) => {
-                self.desk.keep(rt, offer, &verdict);
+                self.desk.keep(rt, claimed, verdict);
                 Ok(())
             }
-            Ok(Proof::Splits(vector)) => self.hold(rt, Separated::new(offer, vector)),
+            Ok(Proof::Splits(vector)) => self.hold(rt, Separated::new(claimed, vector)),
             Err(error) => {
-                self.desk.give_back(rt, offer);
+                self.desk.stop_with(rt, claimed.into_pass());
                 Err(error)
             }
         }
     }
 
-    // Puts an offer into the pocket with a vector. Where memory ran out it goes back.
+    // Puts a pair into the pocket with a vector. Where memory ran out its pass goes back.
     fn hold(&mut self, rt: &impl Wait, found: Separated<'p, L>) -> Result<(), AllocError>
-        requires party { found.party ≡ self.old.party }
-        requires hand { IsAtWork self.old.party 1 self.old }
-        ensures { IsAtWork self.old.party 0 self.new }
+        ensures { self.new ≡ self.old }
     {
         if self.pocket.reserve(1).is_err() {
-            self.desk.give_back(rt, found.into_offer());
+            self.desk.stop_with(rt, found.into_claimed().into_pass());
             return Err(AllocError);
         }
         self.pocket.push_reserved(found);
         Ok(())
     }
 
-    // Answers all offers that the worker holds.
+    // Answers all pairs that the worker found apart.
     fn hand_in(&mut self, rt: &impl Wait)
-        requires { self.old.owed ≡ self.old.held }
-        ensures { self.new ≡ record self.old { owed = 0; held = 0 } }
+        ensures { self.new ≡ self.old }
     {
         while let Some(found) = self.pocket.pop() {
             self.desk.split(rt, found);
         }
     }
 
-    // Leaves a run for want of memory: stops it, and gives all offers back that the worker holds.
+    // Leaves a run for want of memory: stops it, and gives all passes back that the worker holds.
     fn leave(&mut self, rt: &impl Wait)
-        requires { self.old.owed ≡ self.old.held }
-        ensures { self.new ≡ record self.old { owed = 0; held = 0 } }
+        ensures { self.new ≡ self.old }
     {
         self.desk.stop(rt);
         while let Some(held) = self.pocket.pop() {
-            self.desk.give_back(rt, held.into_offer());
+            self.desk.stop_with(rt, held.into_claimed().into_pass());
         }
     }
 
-    // Works until the end, and says whether it was told that each pair is counted; else memory ran out. Offers that it holds it
-    // hands in when it finds no open pair, the board has another version, or they are many; where it holds none it waits. It asks
-    // once before its first turn, and then when it has the turn.
+    // Claims a pair for a pass, and answers it.
+    fn work_at(&mut self, rt: &impl Wait, pass: Pass<'p, L>) -> Result<(), AllocError>
+        requires party { pass.party < L.workers }
+        ensures { self.new ≡ self.old }
+    {
+        match self.take_up(rt, pass) {
+            Some(claimed) => self.answer(rt, claimed),
+            None => Ok(()),
+        }
+    }
+
+    // Works until the end, and says whether it was told that each pair is counted; else memory ran out. Pairs that it found apart it
+    // hands in when no pair is left, the board has another version, or they are many; where it holds none it waits. It asks once
+    // before its first turn, and then when it has the turn.
     fn work(&mut self, rt: &impl Wait) -> bool
-        requires going { IsAtWork self.old.party 0 self.old }
-        ensures settled { self.new.owed ≡ 0 }
+        requires going { IsAtWork self.old.party self.old }
         ensures party { self.new.party ≡ self.old.party }
         ensures ended { result ≡ true → self.new.ended ≡ 1 }
     {
         for _turn in rt.forever() {
             match self.ask(rt) {
-                Asked::Work(offer) => {
-                    if self.answer(rt, offer).is_err() {
+                Asked::Work(pass) => {
+                    if self.work_at(rt, pass).is_err() {
                         self.leave(rt);
                         return false;
                     }
                 }
-                Asked::Idle | Asked::Moved => {
+                Asked::Moved => self.hand_in(rt),
+                Asked::Idle(word) => {
                     if self.is_holding() {
                         self.hand_in(rt);
                     } else {
-                        self.wait(rt);
+                        self.wait(rt, word);
                     }
                 }
                 Asked::Awaited => self.give_way(rt),
@@ -271,7 +309,7 @@ impl<'r, 'v, 'p, L: Run, E: Ledger, O: Ledger, G: Gate> Worker<'r, 'v, 'p, L, E,
 }
 
 /// Works in a seat until the end, and gives it back where the worker was told that each pair is counted; else memory ran
-/// out. Either way each offer that it was given is answered or given back by then.
+/// out.
 pub(crate) fn work<'v, 'p, L: Run, E: Ledger, O: Ledger, G: Gate>(
     rt: &impl Wait,
     alloc: Global,
@@ -280,16 +318,23 @@ pub(crate) fn work<'v, 'p, L: Run, E: Ledger, O: Ledger, G: Gate>(
     seat: Seat<E, O>,
 ) -> Option<Seat<E, O>>
     requires party { seat.party < L.workers }
-    requires fresh { (seat.ended ≡ 0) × (seat.owed ≡ 0) }
+    requires fresh { seat.ended ≡ 0 }
     ensures { IfSome result (HasEnded seat.party) }
 {
-    let mut desk = Caller::new(&room.desk, gate, seat);
+    let mut desk = Caller::new(rt, &room.desk, gate, seat);
     let Ok(place) = Place::new(alloc, room) else {
         desk.stop(rt);
         drop(desk);
         return None;
     };
-    let mut worker = Worker::new(alloc, desk, place, most_of(room.lent.places));
+    let mut worker = Worker {
+        desk,
+        place,
+        versions: room.lent.versions,
+        ticket: None,
+        pocket: Vec::new(alloc),
+        most: most_of(room.lent.places),
+    };
     if !worker.work(rt) {
         drop(worker);
         return None;

@@ -1,12 +1,13 @@
 -- A pair of the greatest correspondence for j frames passes for k, where j is no greater.
-use Rattle.std.proofs.Common.{◌↔◌, Bool, true, IsTrue, ◌/◌, ◌≡◌, ◌<◌, ◌≤◌, ◌+◌, ◌-◌, ℕ, zero, suc, false, subst, sym, arith}
+use Rattle.std.proofs.Common.{◌↔◌, Bool, true, IsTrue, ◌/◌, ◌≡◌, ◌<◌, ◌≤◌, ◌+◌, ◌-◌, ℕ, zero, suc, false, List, subst, sym, arith}
 use Rattle.circ_model.specs.Meaning.{Pair, places_of, row_at, signed}
 use Rattle.circ_model.specs.Correspondence.{Corresponds}
 use Rattle.circ_model.proofs.Greatest.{greatest_holds, grows, may_split_agrees}
 use Rattle.circ_model.proofs.Literals.{half_literal}
 use Rattle.class_partition.specs.Classes.{Classes, ArePartition, IsNeeded, KeepsGreatest, Pairs, Passes, least_of, needed, phase_of}
 use Rattle.class_partition.proofs.Partition.{may_split_after}
-use Rattle.verdict_stamp.specs.declared.used.Used.TheVariants.{Known}
+use Rattle.class_partition.specs.declared.classes.Needed.{Needed}
+use Rattle.verdict_stamp.specs.declared.used.Used.TheVariants.{Known, Pairs as ByPairs}
 use Rattle.verdict_stamp.specs.Known.{AreKnown, ArePaired, IsBelow, KnownClasses, known_of}
 use Rattle.verdict_stamp.specs.Versions.{IsKnown, IsPassed, IsVersion, Standing}
 
@@ -27,6 +28,9 @@ known_passes pair j k classes m le keeps known =
       base = λ run is len t lt. greatest_holds pair j a b known run is t (omega (arith, len));
       step = λ path is len hold. may_split_agrees pair k (row_at pair path k) (may_split_after pair k classes path keeps is (omega (arith, len)) hold) a b (greatest_grows pair j k a b le known);
     }
+
+not_pairs : (j : ℕ) (pairs : List Needed) → Known j ≡ ByPairs pairs → ⊥
+not_pairs j pairs e = cc
 
 same_known : (i j : ℕ) → Known i ≡ Known j → i ≡ j
 same_known i j e = cc
@@ -49,6 +53,7 @@ known_is known v m are is below need paired =
       is_needed = need;
       passes = known_passes v.pair known.k v.k v.classes m below.1 is.keeps there;
       known = λ j e. subst (λ (n : ℕ). (0 < n) × (n ≤ v.k) × IsKnown v.pair n v.classes m) (same_known known.k j e) (are.some, below.1, there);
+      listed = λ pairs e. absurd (not_pairs known.k pairs e);
     }
 
 -- the answer says so of the two literals

@@ -6,3 +6,6 @@ pub mod WideSplitting
 pub mod OpenedFrames
 pub mod Rounds
 pub mod KnownPasses
+pub mod Listed
+pub mod Whole
+pub mod Logged

@@ -15,7 +15,8 @@ use Rattle.frame_unroll.specs.Unrolled.{NoneSought}
 use Rattle.frame_unroll.proofs.Members.{members_to, members_from}
 use Rattle.verdict_stamp.specs.declared.prover.Proof.{Proof}
 use Rattle.verdict_stamp.specs.declared.prover.Proof.TheVariants.{Holds, Splits}
-use Rattle.verdict_stamp.specs.declared.used.Used.TheVariants.{Version, Known}
+use Rattle.verdict_stamp.specs.declared.used.Used.TheVariants.{Version}
+use Rattle.verdict_stamp.proofs.Listed.{on_version}
 use Rattle.pair_sweep.specs.Sweeps.{Extent}
 use Rattle.split_rows.specs.Rows.{IsRowApart, SeparatesSome}
 use Rattle.frame_graph.specs.Inductions.{BasePasses, StepPasses}
@@ -99,12 +100,8 @@ step_found v m f s is e h = step_row v m s is (subst (IsFound (step_of v) (step_
 pub splits : (v w : Standing) (m : ℕ) (x : Split) (bits : List Bool) → v ≡ w → x ≡ record { pair = v.pair; k = v.k; bits = bits } → IsSplitOf w m bits → IsProof w m (Splits x)
 splits v w m x bits ev ex s = subst (λ (z : Split). IsProof w m (Splits z)) (sym ex) (ap (λ (z : Standing). z.pair) ev, ap (λ (z : Standing). z.k) ev, s.apart, s.may, s.fails)
 
--- what rests on the version rests on nothing that is known
-not_known : (j : ℕ) → Version ≡ Known j → ⊥
-not_known j e = cc
-
 pub passed : (v : Standing) (m : ℕ) → BasePasses (induction_of v) m → StepPasses (induction_of v) m → IsNeeded (places_of v.pair) v.classes m → IsPassed (record { version = v; member = m; used = Version })
-passed v m base step need = record { is_needed = need; passes = both_halves (induction_of v) m base step; known = λ j e. absurd (not_known j e) }
+passed v m base step need = on_version v m need (both_halves (induction_of v) m base step)
 
 -- nothing found: each half holds
 pub base_none : (v : Standing) (m : ℕ) (f : Separation) (log : List Line) → f ≡ found.None log → IsFound (base_of v) (base_question v m) f → BasePasses (induction_of v) m

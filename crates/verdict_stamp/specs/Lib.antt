@@ -5,3 +5,4 @@ pub mod Proofs
 pub mod Opening
 pub mod Known
 pub mod Laws
+pub mod Logs

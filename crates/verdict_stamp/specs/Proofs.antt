@@ -8,7 +8,7 @@ use Rattle.verdict_stamp.specs.declared.prover.Proof.{Proof}
 use Rattle.verdict_stamp.specs.declared.used.Used.TheVariants.{Version}
 use Rattle.verdict_stamp.specs.declared.prover.Proof.TheVariants.{Holds, Splits}
 use Rattle.verdict_stamp.specs.Known.{KnownClasses, ArePaired, known_of}
-use Rattle.verdict_stamp.specs.Versions.{Split, Standing}
+use Rattle.verdict_stamp.specs.Versions.{Passed, Split, Standing}
 
 -- it holds exactly where the pair passes, by the version's needed pairs; else a vector of the same product and k separates it
 abbrev pub IsProof : Standing → ℕ → Proof → Type 0
@@ -36,6 +36,15 @@ pub record SplitsSome (v : Standing) (x : Split) : Type 0 where
 abbrev pub IsSettled : Standing → ℕ → Proof → Type 0
 IsSettled v m (Holds w) = (w.version ≡ v) × (w.member ≡ m) × Passes v.pair v.k v.classes m
 IsSettled v m (Splits x) = IsApart v m x
+
+-- a needed pair passes, by less than all needed pairs of its version
+abbrev pub IsListed : Standing → ℕ → Passed → Type 0
+IsListed v m w = (w.version ≡ v) × (w.member ≡ m) × Passes v.pair v.k v.classes m × (w.used ≡ Version → ⊥)
+
+-- the answer that a pair passes rests on less than that
+abbrev pub RestsOnLess : Proof → Type 0
+RestsOnLess (Holds w) = w.used ≡ Version → ⊥
+RestsOnLess (Splits x) = Unit {0}
 
 -- what is known isn't proved again: where known classes pair the two literals, that is the answer
 abbrev pub IsToldBy : KnownClasses → Standing → ℕ → Proof → Type 0

@@ -8,8 +8,10 @@ use Rattle.frame_graph.specs.Inductions.{Induction}
 use Rattle.pair_sweep.specs.Sweeps.{Extent}
 use Rattle.frame_unroll.specs.declared.question.Question.{Question}
 use Rattle.frame_unroll.specs.Unrolled.{Unrolling, after_classes, from_reset, asks}
+use Rattle.class_partition.specs.declared.classes.Needed.{Needed}
+use Rattle.used_pairs.specs.Lists.{PassesBy}
 use Rattle.verdict_stamp.specs.declared.used.Used.{Used}
-use Rattle.verdict_stamp.specs.declared.used.Used.TheVariants.{Known}
+use Rattle.verdict_stamp.specs.declared.used.Used.TheVariants.{Known, Pairs}
 
 -- classes of a pair's places, for induction over k frames, and how many splits they went through
 pub record Standing : Type 0 where
@@ -66,11 +68,12 @@ pub record Passed : Type 0 where
 abbrev pub IsKnown : Pair → ℕ → Classes → ℕ → Type 0
 IsKnown pair j classes m = Corresponds pair j (needed classes m).0 (needed classes m).1
 
--- it passes; where it rests on what is known for j frames, these are some and no more than the version's
+-- it passes; where it rests on what is known for j frames, these are some and no more than the version's; where on pairs, by them
 pub record IsPassed (w : Passed) : Type 0 where
   pub is_needed : IsNeeded (places_of w.version.pair) w.version.classes w.member
   pub passes : Passes w.version.pair w.version.k w.version.classes w.member
   pub known : (j : ℕ) → w.used ≡ Known j → (0 < j) × (j ≤ w.version.k) × IsKnown w.version.pair j w.version.classes w.member
+  pub listed : (pairs : List Needed) → w.used ≡ Pairs pairs → PassesBy w.version.pair w.version.k w.version.classes.phase pairs (needed w.version.classes w.member)
 
 -- the induction that a version's pairs are proved by
 abbrev pub induction_of : Standing → Induction

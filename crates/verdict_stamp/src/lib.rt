@@ -16,7 +16,7 @@ mod version;
 mod versions;
 
 pub use known::Known;
-pub use laws::known_passes;
+pub use laws::{known_passes, version_is_all_pairs};
 pub use pair_sweep::{Asker, Halt};
 pub use prover::{Proof, Prover, ProverMemory};
 pub use refine::greatest_classes;

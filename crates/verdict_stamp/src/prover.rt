@@ -10,7 +10,8 @@ ghost use Rattle.frame_questions.specs.Found.{IsFound};
 ghost use Rattle.verdict_stamp.specs.Versions.{IsOf, IsVersion, base_of, step_of, base_question, step_question, induction_of};
 ghost use Rattle.split_rows.specs.Rows.{AllBroken};
 ghost use Rattle.verdict_stamp.specs.Known.{IsBelow};
-ghost use Rattle.verdict_stamp.specs.Proofs.{IsApart, IsProof, IsSettled, IsSplitOf, IsToldBy, SplitsSome};
+ghost use Rattle.verdict_stamp.specs.Proofs.{IsApart, IsListed, IsProof, IsSettled, IsSplitOf, IsToldBy, RestsOnLess, SplitsSome};
+ghost use Rattle.used_pairs.specs.Latches.{AreByNext};
 
 use crate::constraints::Constraints;
 use crate::known::Known;
@@ -25,6 +26,7 @@ use product_machine::Product;
 use split_rows::SplitRows;
 use std::alloc::{AllocError, Global};
 use std::marker::Model;
+use used_pairs::latch_pairs;
 
 // So many models of a pair are run on at most.
 const MODELS: u32 = 64;
@@ -748,9 +750,61 @@ impl<'v, 'p> Prover<'v, 'p> {
         self.passed.of_any(alloc, version.k(), places)
     }
 
+    // That a pair of latches whose next literals the classes have together passes, by these alone: in each frame a latch has what its
+    // next literal has in the frame before.
+    fn by_latches(
+        &mut self,
+        alloc: Global,
+        pair: Needed,
+    ) -> Result<Option<Verdict<'v, 'p>>, AllocError>
+        requires needed { IsNeeded (places_of self.old.pair) self.old.classes pair.member }
+        requires rep { pair.rep ≡ least_of self.old.classes pair.member }
+        requires base { BasePasses (induction_of self.old) pair.member }
+        ensures kept { self.new ≡ self.old }
+        ensures some { IfOk result (λ found. IfSome found (IsListed self.old pair.member)) }
+        ensures none { IfOk result (λ found. IfNone found (AreByNext self.old.pair self.old.classes pair → ⊥)) }
+    {
+        let version = self.current;
+        let _places = version.product().len();
+        let Some(pairs) = latch_pairs(alloc, version.product(), version.classes(), pair)? else {
+            return Ok(None);
+        };
+        self.sweep.take_passed(pair.member)?;
+        let verdict = Verdict::by_pairs(alloc, version, pair.member, pairs)?;
+        Ok(Some(verdict))
+    }
+
+    // Settles a needed pair that holds in the first k frames of every run.
+    fn settle_step(
+        &mut self,
+        alloc: Global,
+        asker: &mut Asker,
+        pair: Needed,
+    ) -> Result<Proof<'v, 'p>, Halt>
+        requires needed { IsNeeded (places_of self.old.pair) self.old.classes pair.member }
+        requires rep { pair.rep ≡ least_of self.old.classes pair.member }
+        requires base { BasePasses (induction_of self.old) pair.member }
+        ensures kept { self.new ≡ self.old }
+        ensures settled { IfOk result (IsSettled self.old pair.member) }
+        ensures latches { IfOk result (λ proof. AreByNext self.old.pair self.old.classes pair → RestsOnLess proof) }
+        ensures most { asker.new.most ≡ asker.old.most }
+        ensures halt { IfErr result (IsHalted asker.old asker.new) }
+    {
+        let version = self.current;
+        if let Some(verdict) = self.by_latches(alloc, pair)? {
+            return Ok(Proof::Holds(verdict));
+        }
+        if let Some(vector) = self.step_vector(alloc, asker, pair)? {
+            self.is_fresh = true;
+            return Ok(Proof::Splits(vector));
+        }
+        Ok(Proof::Holds(Verdict::of(version, pair.member)))
+    }
+
     /// Settles a needed pair: it holds, or a vector separates it. Rows that simulation found for other pairs, or other versions,
-    /// are tried first, so a vector says nothing of whether the pair passes under this version: `prove` tells that. It errs for
-    /// want of memory, or where a question is put aside in the asker.
+    /// are tried first, so a vector says nothing of whether the pair passes under this version: `prove` tells that. Where the pair is
+    /// one of latches whose next literals the classes have together, a verdict rests on these alone. It errs for want of memory, or where
+    /// a question is put aside in the asker.
     pub fn settle(
         &mut self,
         alloc: Global,
@@ -761,10 +815,10 @@ impl<'v, 'p> Prover<'v, 'p> {
         requires rep { pair.rep ≡ least_of self.old.classes pair.member }
         ensures kept { self.new ≡ self.old }
         ensures settled { IfOk result (IsSettled self.old pair.member) }
+        ensures latches { IfOk result (λ proof. AreByNext self.old.pair self.old.classes pair → RestsOnLess proof) }
         ensures most { asker.new.most ≡ asker.old.most }
         ensures halt { IfErr result (IsHalted asker.old asker.new) }
     {
-        let version = self.current;
         self.rows.run_ahead(alloc)?;
         if let Some(vector) = self.held(alloc, pair)? {
             return Ok(Proof::Splits(vector));
@@ -773,11 +827,7 @@ impl<'v, 'p> Prover<'v, 'p> {
             self.is_fresh = true;
             return Ok(Proof::Splits(vector));
         }
-        if let Some(vector) = self.step_vector(alloc, asker, pair)? {
-            self.is_fresh = true;
-            return Ok(Proof::Splits(vector));
-        }
-        Ok(Proof::Holds(Verdict::of(version, pair.member)))
+        self.settle_step(alloc, asker, pair)
     }
 
     /// Whether the question that an asker has put aside rests on a place and its class's least place: then it is better asked once that

@@ -1,19 +1,22 @@
-//! A worker's calls of the desk: each goes past the gate and locks the desk, and the bell rings where it lets it go.
-ghost use Rattle.std.specs.Prelude.{◌≡◌, ◌<◌};
-ghost use Rattle.refine_board.specs.Running.{IsAbout};
-ghost use Rattle.work_desk.specs.Seats.{OwesLess};
-ghost use Rattle.work_desk.specs.Desks.{IsAskedOf};
+//! A worker's calls of the desk: each goes past the gate and locks the desk, and the bell rings where it lets it go. Its claims go to
+//! the word, past no lock.
+ghost use Rattle.std.specs.Prelude.{◌≡◌, ◌≢◌, ◌⊎◌, ◌<◌, ◌≤◌, IfOk, IfErr, IfSome, IfNone, length};
+ghost use Rattle.claim_word.specs.Seats.{beside};
+ghost use Rattle.refine_board.specs.Running.{IsAbout, claiming_of};
+ghost use Rattle.work_desk.specs.Seats.{HasClaimed, HasFoundNone, Seated, calling};
+ghost use Rattle.work_desk.specs.Desks.{IsCalled};
 
-use crate::desk::{Asked, Desk};
+use crate::desk::{Asked, Desk, Request};
 use crate::seat::Seat;
 use crate::separated::Separated;
 use bell::Bell;
-use refine_board::{Offer, Run};
+use claim_word::{Claim, ClaimWord};
+use refine_board::{Claimed, Pass, Run};
 use sec_base::Gate;
 use std::marker::Model;
 use std::sync::Wait;
 use std::sync::ledger::Ledger;
-use verdict_stamp::Verdict;
+use verdict_stamp::{Verdict, Versions};
 
 // A worker at the gate, which is told the number of each of its calls.
 #[derive(Drop)]
@@ -41,36 +44,49 @@ impl<'r, G: Gate> Turnstile<'r, G> {
     }
 }
 
-/// A worker in its seat, from which it calls the desk.
+/// The pair with this index of the version of this number, which a worker claimed.
+#[derive(Clone, Copy)]
+pub struct Ticket {
+    /// Which publication the version is.
+    pub turn: u32,
+    /// The index.
+    pub index: u32,
+}
+
+/// A worker in its seat, from which it calls the desk, and its seat at the word.
 #[derive(Drop)]
 pub struct Caller<'r, 'v, 'p, L: Run, E: Ledger, O: Ledger, G: Gate> {
     desk: &'r Bell<Desk<'v, 'p, L, E, O>>,
     gate: Turnstile<'r, G>,
     seat: Seat<E, O>,
+    word: &'v ClaimWord,
+    claims: claim_word::Seat,
 }
 
 impl<'r, 'v, 'p, L: Run, E: Ledger, O: Ledger, G: Gate> Model for Caller<'r, 'v, 'p, L, E, O, G> {
-    ghost use Rattle.std.specs.Prelude.{◌<◌};
-    ghost use Rattle.work_desk.specs.Seats.{Seated};
+    ghost use Rattle.std.specs.Prelude.{◌≡◌, ◌<◌};
+    ghost use Rattle.work_desk.specs.Seats.{Calling, calling};
 
-    ghost Value = { Seated };
+    ghost Value = { Calling };
 
-    ghost view = { λ c. c.seat };
+    ghost view = { λ c. calling c.seat c.claims };
 
-    ghost invariant = { λ c. c.seat.party < L.workers };
+    ghost invariant = { λ c. (c.seat.party < L.workers) × (c.word.now ≡ L.word) × (c.claims.word ≡ L.word) };
 }
 
 impl<'r, 'v, 'p, L: Run, E: Ledger, O: Ledger, G: Gate> Caller<'r, 'v, 'p, L, E, O, G> {
-    /// Takes a seat.
+    /// Takes a seat, and one at the word.
     pub fn new(
+        rt: &impl Wait,
         desk: &'r Bell<Desk<'v, 'p, L, E, O>>,
         gate: &'r G,
         seat: Seat<E, O>,
     ) -> Caller<'r, 'v, 'p, L, E, O, G>
         requires party { seat.party < L.workers }
-        ensures { result ≡ seat }
+        ensures { result ≡ calling seat (beside L.word) }
     {
         let worker = seat.party();
+        let (word, claims) = desk.lock(rt).value().claim_seat();
         Caller {
             desk,
             gate: Turnstile {
@@ -79,12 +95,14 @@ impl<'r, 'v, 'p, L: Run, E: Ledger, O: Ledger, G: Gate> Caller<'r, 'v, 'p, L, E,
                 call: 0,
             },
             seat,
+            word,
+            claims,
         }
     }
 
     /// Leaves it.
     pub fn into_seat(self) -> Seat<E, O>
-        ensures { result ≡ self.entry }
+        ensures { (result.party ≡ self.entry.party) × (result.ended ≡ self.entry.ended) }
     {
         let Caller { seat, .. } = self;
         seat
@@ -95,29 +113,61 @@ impl<'r, 'v, 'p, L: Run, E: Ledger, O: Ledger, G: Gate> Caller<'r, 'v, 'p, L, E,
         self.gate.works();
     }
 
-    /// Asks for work, with the last pair that the worker found apart and holds, if it holds any, and whether it has the turn.
+    /// Asks for work, with the last pair that the worker found apart and holds, if it holds any.
     pub fn ask(
         &mut self,
         rt: &impl Wait,
-        held: Option<&Separated<'p, L>>,
-        has_turn: bool,
+        found: Option<&Separated<'p, L>>,
+        request: Request,
     ) -> Asked<'p, L>
         requires working { self.old.ended ≡ 0 }
-        ensures { IsAskedOf self.old self.new result }
+        ensures { IsCalled L.workers self.old self.new result }
     {
         self.gate.hold();
         let asked = self
             .desk
             .lock(rt)
             .value()
-            .ask(rt, &mut self.seat, held, has_turn);
+            .ask(rt, &mut self.seat, found, request);
         self.gate.told();
         asked
     }
 
-    /// Sleeps while there is nothing to do until another worker answers or stops the run. Each call rings the bell.
-    pub fn wait(&self, rt: &impl Wait) {
-        self.desk.wait_while(rt, |desk| desk.is_idle());
+    /// Claims the next pair of the version that the word has, if one is left: by an exchange on the word, past no lock.
+    pub fn claim(&mut self, rt: &impl Wait) -> Option<Ticket>
+        ensures some { IfSome result (λ t. HasClaimed self.old self.new (t.turn, t.index)) }
+        ensures none { IfNone result (HasFoundNone self.old self.new) }
+    {
+        for _turn in rt.forever() {
+            match self.word.claim(&mut self.claims) {
+                Claim::Mine(turn, index) => return Some(Ticket { turn, index }),
+                Claim::Spent(_) => return None,
+                Claim::Moved(_, _) => {}
+            }
+        }
+        unreachable!()
+    }
+
+    /// The pass for a pair that was claimed, where it is of the pair's version.
+    pub fn take_up(
+        &self,
+        versions: &Versions<'p>,
+        pass: Pass<'p, L>,
+        ticket: Ticket,
+    ) -> Result<Claimed<'p, L>, Pass<'p, L>>
+        requires { versions.now ≡ L.list }
+        ensures ok { IfOk result (λ c. (c ≡ claiming_of pass.entry ticket.index c.pair) × (c.stamp.value.turn ≡ ticket.turn)) }
+        ensures err { IfErr result (λ p. (p ≡ pass.entry) × ((p.stamp.value.turn ≢ ticket.turn) ⊎ (length p.stamp.value.pending ≤ ticket.index))) }
+    {
+        if versions.turn(pass.stamp()) != ticket.turn {
+            return Err(pass);
+        }
+        pass.at(versions, ticket.index)
+    }
+
+    /// Sleeps while the version whose word stood so has no pair left, until another worker answers or stops the run. Each call rings the bell.
+    pub fn wait(&self, rt: &impl Wait, word: u64) {
+        self.desk.wait_while(rt, |desk| desk.is_idle(word));
     }
 
     /// The worker's number.
@@ -127,7 +177,7 @@ impl<'r, 'v, 'p, L: Run, E: Ledger, O: Ledger, G: Gate> Caller<'r, 'v, 'p, L, E,
         self.seat.party()
     }
 
-    /// Tells that the worker has an offer in hand, and waits for its turn at what workers take turns at.
+    /// Tells that the worker has a pair in hand, and waits for its turn at what workers take turns at.
     pub fn comes(&self, rt: &impl Wait) {
         self.desk.lock(rt).value().comes();
     }
@@ -137,9 +187,18 @@ impl<'r, 'v, 'p, L: Run, E: Ledger, O: Ledger, G: Gate> Caller<'r, 'v, 'p, L, E,
         self.desk.lock(rt).value().came();
     }
 
-    /// Sleeps while workers with an offer in hand wait for their turn.
+    /// Sleeps while workers with a pair in hand wait for their turn.
     pub fn give_way(&self, rt: &impl Wait) {
         self.desk.wait_while(rt, |desk| desk.is_awaited());
+    }
+
+    /// Gives a pass back for which the worker claimed no pair.
+    pub fn give_back(&mut self, rt: &impl Wait, pass: Pass<'p, L>, has_turn: bool)
+        ensures { self.new ≡ self.old }
+    {
+        self.gate.hold();
+        self.desk.lock(rt).value().back(pass, has_turn);
+        self.gate.told();
     }
 
     /// Stops the run. Whoever waits then stops too.
@@ -151,45 +210,34 @@ impl<'r, 'v, 'p, L: Run, E: Ledger, O: Ledger, G: Gate> Caller<'r, 'v, 'p, L, E,
         self.gate.told();
     }
 
-    /// Gives an offer back, and stops the run.
-    pub fn give_back(&mut self, rt: &impl Wait, offer: Offer<'p, L>)
-        requires party { offer.party ≡ self.old.party }
-        requires owed { 0 < self.old.owed }
-        ensures { OwesLess self.old self.new }
+    /// Stops the run, and gives a pass back.
+    pub fn stop_with(&mut self, rt: &impl Wait, pass: Pass<'p, L>)
+        ensures { self.new ≡ self.old }
     {
         self.gate.hold();
-        self.desk.lock(rt).value().give_back(&mut self.seat, offer);
+        self.desk.lock(rt).value().stop_with(pass);
         self.gate.told();
     }
 
-    /// Answers that an offered pair holds.
-    pub fn keep(&mut self, rt: &impl Wait, offer: Offer<'p, L>, verdict: &Verdict<'_, '_>)
-        requires party { offer.party ≡ self.old.party }
-        requires owed { 0 < self.old.owed }
-        requires about { IsAbout verdict.now offer.pair }
-        requires version { verdict.now.version ≡ offer.stamp.value }
-        ensures { OwesLess self.old self.new }
+    /// Answers that a claimed pair holds.
+    pub fn keep(&mut self, rt: &impl Wait, claimed: Claimed<'p, L>, verdict: Verdict<'_, '_>)
+        requires party { claimed.party < L.workers }
+        requires about { IsAbout verdict claimed.pair }
+        requires version { verdict.version ≡ claimed.stamp.value.version }
+        ensures { self.new ≡ self.old }
     {
         self.gate.hold();
-        self.desk
-            .lock(rt)
-            .value()
-            .keep(&mut self.seat, offer, verdict);
+        self.desk.lock(rt).value().keep(claimed, verdict);
         self.gate.told();
     }
 
-    /// Answers a vector that separates an offered pair.
+    /// Answers a vector that separates a claimed pair.
     pub fn split(&mut self, rt: &impl Wait, found: Separated<'p, L>)
-        requires party { found.party ≡ self.old.party }
-        requires owed { 0 < self.old.owed }
-        ensures { OwesLess self.old self.new }
+        ensures { self.new ≡ self.old }
     {
-        let Separated { offer, vector } = found;
+        let Separated { claimed, vector } = found;
         self.gate.hold();
-        self.desk
-            .lock(rt)
-            .value()
-            .split(&mut self.seat, offer, vector);
+        self.desk.lock(rt).value().split(claimed, vector);
         self.gate.told();
     }
 }

@@ -1,15 +1,17 @@
 //! What lies under the lock of a run: its board, what the ends of its workers say of it, and whether memory ran out.
-ghost use Rattle.std.specs.Prelude.{◌≡◌, ◌<◌, ◌≤◌, ◌+◌, ◌*◌, ◌^◌, ◌⊎◌, [], true, false, length, Contains, IfNone, IfSome, None};
+ghost use Rattle.std.specs.Prelude.{◌≡◌, ◌<◌, ◌≤◌, ◌+◌, ◌*◌, ◌^◌, ◌⊎◌, [], true, false, length, Contains, IfNone, IfSome, is_some, None};
 ghost use Rattle.circ_model.specs.Meaning.{places_of};
+ghost use Rattle.claim_word.specs.Seats.{beside};
 ghost use Rattle.class_partition.specs.Classes.{AreOfGreatest};
 ghost use Rattle.refine_board.specs.States.{AllCounted};
 ghost use Rattle.refine_board.specs.Running.{IsAbout, IsOf};
-ghost use Rattle.work_desk.specs.Seats.{HaveEnded, OwesLess, no_totals};
-ghost use Rattle.work_desk.specs.Desks.{IsAskedOf, IsOutcome, held};
+ghost use Rattle.work_desk.specs.Seats.{HaveEnded, no_totals};
+ghost use Rattle.work_desk.specs.Desks.{HasMoved, IsAskedOf, IsCutAt, IsKeptAt, IsOutcome, held};
 
 use crate::seat::{Ledgers, Seat};
 use crate::separated::Separated;
-use refine_board::{Board, Journal, Offer, Run, Take};
+use claim_word::ClaimWord;
+use refine_board::{Board, Claimed, Journal, Look, Pass, Run};
 use std::marker::Model;
 use std::sync::Wait;
 use std::sync::ledger::Ledger;
@@ -18,13 +20,13 @@ use verdict_stamp::{Vector, Verdict, Version};
 /// What a worker is answered that asks for work.
 #[derive(Drop)]
 pub enum Asked<'p, L: Run> {
-    /// A pair.
-    Work(Offer<'p, L>),
-    /// No pair is open now.
-    Idle,
-    /// The board has another version, and the worker still holds offers.
+    /// It may answer one pair of this version, which it is to claim.
+    Work(Pass<'p, L>),
+    /// Each pair of the version was claimed; its word stood so.
+    Idle(u64),
+    /// The board has another version, and the worker still holds pairs that it found apart.
     Moved,
-    /// Another worker has an offer in hand, and waits for its turn.
+    /// Another worker has a pair in hand, and waits for its turn.
     Awaited,
     /// Each pair is counted.
     Ended,
@@ -32,7 +34,16 @@ pub enum Asked<'p, L: Run> {
     Stopped,
 }
 
-/// The locked value. Beside board and ledgers it counts the workers that have an offer in hand and wait for their turn.
+/// How a worker asks for work.
+#[derive(Clone, Copy)]
+pub struct Request {
+    /// Whether it has the turn.
+    pub has_turn: bool,
+    /// Whether it holds a claim.
+    pub is_holding: bool,
+}
+
+/// The locked value. Beside board and ledgers it counts the workers that have a pair in hand and wait for their turn.
 #[derive(Drop)]
 pub struct Desk<'v, 'p, L: Run, E: Ledger, O: Ledger> {
     board: Board<'v, 'p, L>,
@@ -42,19 +53,22 @@ pub struct Desk<'v, 'p, L: Run, E: Ledger, O: Ledger> {
 }
 
 impl<'v, 'p, L: Run, E: Ledger, O: Ledger> Model for Desk<'v, 'p, L, E, O> {
-    ghost use Rattle.work_desk.specs.Desks.{IsDesk, Held, held};
+    ghost use Rattle.work_desk.specs.Desks.{IsRun, Held, held};
 
     ghost Value = { Held };
 
     ghost view = { λ d. held d.board d.stopped };
 
-    ghost invariant = { λ d. IsDesk L.pair L.k L.workers (held d.board d.stopped) d.ledgers E.parts O.parts };
+    ghost invariant = { λ d. IsRun L.pair L.k L.workers d.board d.ledgers E.parts O.parts };
 }
 
 // Whether the board has another version than the one of a pair that was found apart.
-fn has_moved<'p, L: Run>(board: &Board<'_, 'p, L>, held: Option<&Separated<'p, L>>) -> bool {
-    match held {
-        Some(found) => !board.is_stamped(found.offer.stamp()),
+fn has_moved<'p, L: Run>(board: &Board<'_, 'p, L>, found: Option<&Separated<'p, L>>) -> bool
+    ensures some { result ≡ true → is_some found.entry ≡ true }
+    ensures moved { result ≡ true → IfSome found.entry (λ f. HasMoved board.now f.now.stamp) }
+{
+    match found {
+        Some(found) => !board.is_stamped(found.claimed.stamp()),
         None => false,
     }
 }
@@ -70,7 +84,6 @@ fn end<L: Run, E: Ledger, O: Ledger>(
     ensures greatest { AreOfGreatest L.pair L.k board.now.state.classes }
     ensures ends { ledgers.new.ends ≡ ledgers.old.ends + 1 }
     ensures weights { ledgers.new.weights ≡ ledgers.old.weights + 2 ^ seat.old.party }
-    ensures owed { ledgers.new.owed ≡ ledgers.old.owed }
     ensures seat { seat.new ≡ record seat.old { ended = 1 } }
 {
     let done = board.done();
@@ -83,7 +96,7 @@ impl<'v, 'p, L: Run, E: Ledger, O: Ledger> Desk<'v, 'p, L, E, O> {
     pub fn new(board: Board<'v, 'p, L>, ledgers: Ledgers<E, O>) -> Desk<'v, 'p, L, E, O>
         requires workers { (0 < L.workers) × (L.workers ≤ 64) }
         requires ends { E.parts ≡ L.workers }
-        requires owed { O.parts ≡ L.workers * 2 }
+        requires seats { O.parts ≡ L.workers * 2 }
         requires totals { ledgers ≡ no_totals }
         requires empty { board.entries ≡ [] }
         ensures { result ≡ held board.entry false }
@@ -96,17 +109,29 @@ impl<'v, 'p, L: Run, E: Ledger, O: Ledger> Desk<'v, 'p, L, E, O> {
         }
     }
 
-    /// Asks for work, with the last pair that the worker found apart and holds, if it holds any, and whether it has the turn.
+    /// The word from which pairs are claimed, and a seat at it.
+    pub(crate) fn claim_seat(&mut self) -> (&'v ClaimWord, claim_word::Seat)
+        ensures desk { self.new ≡ self.old }
+        ensures word { result.0.now ≡ L.word }
+        ensures seat { result.1 ≡ beside L.word }
+    {
+        self.board.claim_seat()
+    }
+
+    /// Asks for work, with the last pair that the worker found apart and holds, if it holds any.
     pub(crate) fn ask(
         &mut self,
         rt: &impl Wait,
         seat: &mut Seat<E, O>,
-        held: Option<&Separated<'p, L>>,
-        has_turn: bool,
+        found: Option<&Separated<'p, L>>,
+        request: Request,
     ) -> Asked<'p, L>
         requires party { seat.old.party < L.workers }
         requires working { seat.old.ended ≡ 0 }
-        ensures { IsAskedOf seat.old seat.new result }
+        ensures asked { IsAskedOf seat.old seat.new result }
+        ensures awaited { result ≡ Asked.Awaited → request.has_turn ≡ true }
+        ensures some { result ≡ Asked.Moved → is_some found.entry ≡ true }
+        ensures moved { result ≡ Asked.Moved → IfSome found.entry (λ f. HasMoved self.old.board f.now.stamp) }
     {
         let Desk {
             board,
@@ -117,20 +142,19 @@ impl<'v, 'p, L: Run, E: Ledger, O: Ledger> Desk<'v, 'p, L, E, O> {
         if *stopped {
             return Asked::Stopped;
         }
-        if has_turn && *coming > 0 {
+        if request.has_turn && *coming > 0 && !request.is_holding {
             return Asked::Awaited;
         }
-        if has_moved(board, held) {
+        if has_moved(board, found) {
             return Asked::Moved;
         }
-        match board.take(rt, seat.party()) {
-            Ok(Take::Offer(offer)) => {
-                ledgers.owe(seat);
-                *coming = coming.saturating_add(!has_turn as u32);
-                Asked::Work(offer)
+        match board.look(rt, seat.party(), request.is_holding) {
+            Ok(Look::Work(pass)) => {
+                *coming = coming.saturating_add(!request.has_turn as u32);
+                Asked::Work(pass)
             }
-            Ok(Take::Idle) => Asked::Idle,
-            Ok(Take::Done) => {
+            Ok(Look::Wait(word)) => Asked::Idle(word),
+            Ok(Look::Done) => {
                 end(board, ledgers, seat);
                 Asked::Ended
             }
@@ -138,41 +162,38 @@ impl<'v, 'p, L: Run, E: Ledger, O: Ledger> Desk<'v, 'p, L, E, O> {
         }
     }
 
-    /// Answers an offer by a verdict that was found under its version.
-    pub(crate) fn keep(
-        &mut self,
-        seat: &mut Seat<E, O>,
-        offer: Offer<'p, L>,
-        verdict: &Verdict<'_, '_>,
-    )
-        requires party { (offer.party ≡ seat.old.party) × (seat.old.party < L.workers) }
-        requires owed { 0 < seat.old.owed }
-        requires about { IsAbout verdict.now offer.pair }
-        requires version { verdict.now.version ≡ offer.stamp.value }
-        ensures { OwesLess seat.old seat.new }
+    /// Answers a claimed pair by a verdict that was found under its version.
+    pub(crate) fn keep(&mut self, claimed: Claimed<'p, L>, verdict: Verdict<'_, '_>)
+        requires party { claimed.party < L.workers }
+        requires about { IsAbout verdict claimed.pair }
+        requires version { verdict.version ≡ claimed.stamp.value.version }
+        ensures { IsKeptAt (places_of L.pair) self.old.board self.new.board claimed.entry verdict.entry.used }
     {
-        let stamp = offer.stamp().copy();
-        self.board.keep(offer, verdict, &stamp);
-        self.ledgers.pay(seat);
+        let stamp = claimed.stamp().copy();
+        self.board.keep_at(claimed, verdict, &stamp);
     }
 
-    /// Answers an offer by a vector.
-    pub(crate) fn split(&mut self, seat: &mut Seat<E, O>, offer: Offer<'p, L>, vector: Vector<'_>)
-        requires party { (offer.party ≡ seat.old.party) × (seat.old.party < L.workers) }
-        requires owed { 0 < seat.old.owed }
+    /// Answers a claimed pair by a vector.
+    pub(crate) fn split(&mut self, claimed: Claimed<'p, L>, vector: Vector<'_>)
+        requires party { claimed.party < L.workers }
         requires own { IsOf L.pair L.k vector }
-        ensures { OwesLess seat.old seat.new }
+        ensures { IsCutAt (places_of L.pair) self.old.board self.new.board claimed.entry vector.entry.bits }
     {
-        self.board.split_own(offer, vector);
-        self.ledgers.pay(seat);
+        self.board.split_own_at(claimed, vector);
     }
 
-    /// Whether a worker that holds no offer has nothing to do until another answers.
-    pub(crate) fn is_idle(&self) -> bool {
-        !self.stopped && self.board.is_idle()
+    /// Takes a pass back of a worker that claimed no pair for it.
+    pub(crate) fn back(&mut self, pass: Pass<'p, L>, has_turn: bool) {
+        self.coming = self.coming.saturating_sub(!has_turn as u32);
+        self.board.back_at(pass);
     }
 
-    /// A worker with an offer in hand waits for its turn.
+    /// Whether a worker that holds nothing has nothing to do until another answers: the version whose word stood so has no pair left.
+    pub(crate) fn is_idle(&self, word: u64) -> bool {
+        !self.stopped && self.board.is_spent_at(word)
+    }
+
+    /// A worker with a pair in hand waits for its turn.
     pub(crate) fn comes(&mut self) {
         self.coming = self.coming.saturating_add(1);
     }
@@ -182,7 +203,7 @@ impl<'v, 'p, L: Run, E: Ledger, O: Ledger> Desk<'v, 'p, L, E, O> {
         self.coming = self.coming.saturating_sub(1);
     }
 
-    /// Whether some worker with an offer in hand waits for its turn.
+    /// Whether some worker with a pair in hand waits for its turn.
     pub(crate) fn is_awaited(&self) -> bool {
         !self.stopped && self.coming > 0
     }
@@ -192,15 +213,10 @@ impl<'v, 'p, L: Run, E: Ledger, O: Ledger> Desk<'v, 'p, L, E, O> {
         self.stopped = true;
     }
 
-    /// Stops the run for want of memory, and gives an offer back.
-    pub(crate) fn give_back(&mut self, seat: &mut Seat<E, O>, offer: Offer<'p, L>)
-        requires party { (offer.party ≡ seat.old.party) × (seat.old.party < L.workers) }
-        requires owed { 0 < seat.old.owed }
-        ensures { OwesLess seat.old seat.new }
-    {
+    /// Stops the run for want of memory, and takes a pass back.
+    pub(crate) fn stop_with(&mut self, pass: Pass<'p, L>) {
         self.stopped = true;
-        self.board.back(offer);
-        self.ledgers.pay(seat);
+        self.board.back_at(pass);
     }
 
     /// The classes and the journal at the end of a run, where each worker's seat is back and memory did not run out, and else none.

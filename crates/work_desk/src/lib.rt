@@ -1,6 +1,6 @@
-//! The desk of a run of workers: one board behind a lock, with ledgers that tell how often each worker ended and how many answers
-//! are owed. A worker calls it from a seat. When all seats are back, the ledgers' totals say that each worker was told once that
-//! each pair is counted, and that each offer was answered.
+//! The desk of a run of workers: one board behind a lock, with ledgers that tell how often each worker ended. A worker claims its
+//! pairs from a word, past the lock, and calls the desk from a seat. When all seats are back, the ledgers' totals say that each worker
+//! was told once that each pair is counted.
 #![tactic(auto)]
 
 mod caller;
@@ -8,7 +8,7 @@ mod desk;
 mod seat;
 mod separated;
 
-pub use caller::Caller;
-pub use desk::{Asked, Desk};
+pub use caller::{Caller, Ticket};
+pub use desk::{Asked, Desk, Request};
 pub use seat::{Blanks, Ledgers, Seat, seats};
 pub use separated::Separated;

@@ -1,29 +1,30 @@
 //! What a worker brings to each call of the desk, and what the desk knows of all of them: ledgers, whose units take no bytes.
-//! That each worker ended once, and owes no answer then, is read off their totals when all seats are back.
-ghost use Rattle.std.specs.Prelude.{◌≡◌, ◌<◌, ◌≤◌, ◌+◌, ◌*◌, ◌^◌, true, false, Contains, IfOk, None, length};
-ghost use Rattle.work_desk.specs.Seats.{no_totals, AreSeats, HaveEnded, OwesLess};
+//! That each worker ended once is read off their totals when all seats are back.
+ghost use Rattle.std.specs.Prelude.{◌≡◌, ◌≤◌, ◌+◌, ◌*◌, ◌^◌, true, false, Contains, IfOk, None, length};
+ghost use Rattle.work_desk.specs.Seats.{no_totals, AreSeats, HaveEnded};
 
 use std::alloc::{AllocError, Global};
 use std::marker::Model;
 use std::sync::ledger::{Blank, Book, Ledger, Share};
 
-/// A worker's seat: its number, and its shares. In ledger `E` the end of worker q counts 2^q. In ledger `O` each offer that
-/// is out counts 1, and a seat has two parts, one of which stays with the desk when the worker ends.
+/// A worker's seat: its number, and its shares. In ledger `E` the end of worker q counts 2^q. In ledger `O` a seat has two parts, one
+/// of which goes to the desk when the worker ends.
 #[derive(Drop)]
 pub struct Seat<E: Ledger, O: Ledger> {
     party: u32,
     weight: Share<E>,
-    owed: Share<O>,
+    parts: Share<O>,
 }
 
 impl<E: Ledger, O: Ledger> Model for Seat<E, O> {
+    ghost use Rattle.std.specs.Prelude.{◌≡◌};
     ghost use Rattle.work_desk.specs.Seats.{Seated, seated, IsSeat};
 
     ghost Value = { Seated };
 
-    ghost view = { λ s. seated s.party s.owed.parts s.owed.amount };
+    ghost view = { λ s. seated s.party s.parts.parts };
 
-    ghost invariant = { λ s. IsSeat s.party s.weight.parts s.weight.amount s.owed.parts };
+    ghost invariant = { λ s. IsSeat s.party s.weight.parts s.weight.amount s.parts.parts × (s.parts.amount ≡ 0) };
 }
 
 impl<E: Ledger, O: Ledger> Seat<E, O> {
@@ -40,7 +41,6 @@ impl<E: Ledger, O: Ledger> Seat<E, O> {
 pub struct Ledgers<E: Ledger, O: Ledger> {
     ends: Book<E>,
     spare: Share<E>,
-    owed: Book<O>,
     ended: Share<O>,
 }
 
@@ -50,58 +50,36 @@ impl<E: Ledger, O: Ledger> Model for Ledgers<E, O> {
 
     ghost Value = { Totals };
 
-    ghost view = { λ l. record { weights = l.ends.total; ends = l.ended.parts; owed = l.owed.total } };
+    ghost view = { λ l. record { weights = l.ends.total; ends = l.ended.parts } };
 
     ghost invariant = { λ l. (l.ended.amount ≡ 0) × (l.spare.parts ≡ 0) × (l.spare.amount ≡ 0) };
 }
 
 impl<E: Ledger, O: Ledger> Ledgers<E, O> {
-    /// An offer is out.
-    pub(crate) fn owe(&mut self, seat: &mut Seat<E, O>)
-        ensures owed { self.new.owed ≡ self.old.owed + 1 }
-        ensures ends { (self.new.ends ≡ self.old.ends) × (self.new.weights ≡ self.old.weights) }
-        ensures seat { seat.new ≡ record seat.old { owed = seat.old.owed + 1 } }
-    {
-        self.owed.add(&mut seat.owed, 1);
-    }
-
-    /// An offer is answered.
-    pub(crate) fn pay(&mut self, seat: &mut Seat<E, O>)
-        requires { 0 < seat.old.owed }
-        ensures owed { self.new.owed + 1 ≡ self.old.owed }
-        ensures ends { (self.new.ends ≡ self.old.ends) × (self.new.weights ≡ self.old.weights) }
-        ensures seat { OwesLess seat.old seat.new }
-    {
-        self.owed.sub(&mut seat.owed, 1);
-    }
-
     /// A worker ends.
     pub(crate) fn end(&mut self, seat: &mut Seat<E, O>)
         requires { seat.old.ended ≡ 0 }
-        ensures owed { self.new.owed ≡ self.old.owed }
         ensures ends { self.new.ends ≡ self.old.ends + 1 }
         ensures weights { self.new.weights ≡ self.old.weights + 2 ^ seat.old.party }
         ensures seat { seat.new ≡ record seat.old { ended = 1 } }
     {
         self.ends.add(&mut seat.weight, 1 << seat.party);
-        seat.owed.give(&mut self.ended, 1, 0);
+        seat.parts.give(&mut self.ended, 1, 0);
     }
 
     /// Takes the seats of all workers back, and says whether none is missing. Then each of them ended: the totals are those of one
-    /// end each, and no answer is owed.
+    /// end each.
     pub(crate) fn all_back(self, told: Vec<Option<Seat<E, O>>>) -> bool
         requires ends { E.parts ≡ length told.items }
-        requires owed { O.parts ≡ length told.items * 2 }
+        requires parts { O.parts ≡ length told.items * 2 }
         requires ended { HaveEnded told.items }
         ensures missing { result ≡ false → Contains told.items None }
         ensures weights { result ≡ true → self.weights + 1 ≡ 2 ^ length told.items }
         ensures few { result ≡ true → self.ends ≤ length told.items }
-        ensures owed { result ≡ true → self.ends ≡ length told.items → self.owed ≡ 0 }
     {
         let Ledgers {
             mut ends,
             spare: mut weights,
-            mut owed,
             mut ended,
         } = self;
         let mut parts = ended.empty();
@@ -110,59 +88,60 @@ impl<E: Ledger, O: Ledger> Ledgers<E, O> {
             let Some(seat) = back else {
                 return false;
             };
-            let Seat { weight, owed, .. } = seat;
+            let Seat {
+                weight,
+                parts: two,
+                ..
+            } = seat;
             weights.merge(weight);
-            parts.merge(owed);
+            parts.merge(two);
         }
         ends.audit(&mut weights);
         ended.merge(parts);
-        owed.audit(&mut ended);
         true
     }
 }
 
-/// The ledgers of a run, for which no name stands yet: of the offers that the board made, of its workers' ends, and of the answers
-/// that they owe.
+/// The ledgers of a run, for which no name stands yet: of what the board is owed, of its workers' ends, and of their seats.
 #[derive(Drop)]
 pub struct Blanks {
-    pub offers: Blank,
+    pub entries: Blank,
     pub ends: Blank,
-    pub owed: Blank,
+    pub seats: Blank,
 }
 
 /// The ledgers of a run, and a seat for each of its workers.
 pub fn seats<E: Ledger, O: Ledger>(
     alloc: Global,
     ends: Blank,
-    owed: Blank,
+    parts: Blank,
     workers: u32,
 ) -> Result<(Ledgers<E, O>, Vec<Seat<E, O>>), AllocError>
     requires few { workers ≤ 64 }
     requires ends_name { ends.name ≡ E.name }
     requires ends_parts { (ends.parts ≡ E.parts) × (E.parts ≡ workers) }
-    requires owed_name { owed.name ≡ O.name }
-    requires owed_parts { (owed.parts ≡ O.parts) × (O.parts ≡ workers * 2) }
+    requires seats_name { parts.name ≡ O.name }
+    requires seats_parts { (parts.parts ≡ O.parts) × (O.parts ≡ workers * 2) }
     ensures totals { IfOk result (λ r. r.0 ≡ no_totals) }
     ensures seats { IfOk result (λ r. AreSeats workers r.1.items) }
 {
     let (ends, mut weights) = ends.open::<E>();
-    let (owed, mut parts) = owed.open::<O>();
+    let (_, mut left) = parts.open::<O>();
     let mut seats = Vec::new(alloc);
     for party in 0..workers {
         let weight = weights.split_off(1, 0);
-        let owed = parts.split_off(2, 0);
+        let parts = left.split_off(2, 0);
         seats.push(Seat {
             party,
             weight,
-            owed,
+            parts,
         })?;
     }
     Ok((
         Ledgers {
             ends,
             spare: weights,
-            owed,
-            ended: parts,
+            ended: left,
         },
         seats,
     ))

@@ -1,5 +1,5 @@
 use Rattle.std.proofs.Common.{ℕ, ◌+◌, List, sym, subst}
-use Rattle.refine_board.proofs.Supported.{always_supported, opening_supported, done_is_greatest, known_stay}
+use Rattle.refine_board.proofs.Supported.{always_supported, opening_supported, done_is_greatest, lasting_stay}
 use Rattle.refine_board.proofs.Splits.{no_later_split, splits_below, same_end, alike_end, split_apart}
 use Rattle.refine_board.proofs.Offers.{offers_below}
 use Rattle.refine_board.proofs.Orderly.{late_below, offers_in_order_below, opening_timely}
@@ -23,8 +23,8 @@ returns-clause-supported c = stays
 pub returns-clause-apart : goal.returns-clause-apart
 returns-clause-apart c = λ pair k opening entries board after party n bits is does ok. split_apart pair k party bits n board after (stays pair k opening entries board is) ok does
 
-pub returns-clause-known : goal.returns-clause-known
-returns-clause-known c = λ pair k opening entries board after party n bits is does ok p. known_stay pair k party n bits board after (stays pair k opening entries board is) does ok p
+pub returns-clause-lasting : goal.returns-clause-lasting
+returns-clause-lasting c = λ pair k opening entries board after party n bits is does ok p. lasting_stay pair k party n bits board after (stays pair k opening entries board is) does ok p
 
 pub returns-clause-done : goal.returns-clause-done
 returns-clause-done c = λ pair k opening entries board is all. let s = stays pair k opening entries board is in let g = done_is_greatest pair k board s all in (g, count_of_greatest pair k board.classes s.partition g)

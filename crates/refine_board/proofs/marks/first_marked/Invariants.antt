@@ -1,12 +1,12 @@
 use Rattle.std.proofs.Common.{length, ◌-◌, ◌≤◌, ◌<◌, ℕ}
-use Rattle.refine_board.specs.Running.{IsMarkedAt}
+use Rattle.refine_board.specs.Running.{IsMarkedAt, uncounted}
 use Rattle.refine_board.proofs.marks.first_marked.Given as goal
 
 abbrev pub invariant-loop-p : goal.invariant-loop-p
 invariant-loop-p l = record {
   low : l.fn.from ≤ l.p;
   high : l.p ≤ length l.classes.least;
-  before : (m : ℕ) → l.fn.from ≤ m → m < l.p → IsMarkedAt l.classes.least l.marks l.mark m → ⊥;
+  before : (m : ℕ) → l.fn.from ≤ m → m < l.p → IsMarkedAt l.classes.least l.marks (uncounted l.out) m → ⊥;
 }
 
 abbrev pub decreases-loop-p : goal.decreases-loop-p

@@ -6,7 +6,7 @@ use Rattle.verdict_stamp.specs.Versions.{Passed, IsVersion}
 use Rattle.refine_board.specs.declared.marks.Mark.TheVariants.{Open, Proved}
 use Rattle.refine_board.specs.declared.journal.Step.TheVariants.{Counted}
 use Rattle.refine_board.specs.States.{State, called, cleared, marked}
-use Rattle.refine_board.specs.Running.{Running, IsRunning, Counts, state_of, next_entry}
+use Rattle.refine_board.specs.Running.{Running, IsRunning, Counts, state_of}
 use Rattle.refine_board.proofs.Runs.{running_after, held_after, was_there}
 use Rattle.refine_board.proofs.Judged.{judged}
 use Rattle.refine_board.proofs.board.Board.count.Goals as goal
@@ -21,15 +21,15 @@ invariant_of-self g c =
     let q : ℕ = c.args.party in
     let inside : q < length before.calls = omega (arith, c.requires.party, was.calls) in
     let p : Needed = c.args.pair in
-    let w : Passed = c.args.verdict.now in
+    let w : Passed = c.args.verdict in
     let counts : Counts g.L.Run.pair g.L.Run.k before.classes w = subst (λ (r : Running). Counts g.L.Run.pair g.L.Run.k r.state.classes w) (sym c.self.view_is) c.requires.counts in
     let own_is : IsVersion i.version = c.product-own.ensures.kept in
     let found_is : IsVersion w.version = subst IsVersion c.version.ensures c.product-found.ensures.kept in
-    let is_judged = judged g.L.Run.pair g.L.Run.k before.classes w p c.used-used.ensures.passed c.requires.about found_is.phased (own_is.phased ∙ ap phases c.self.invariant.1.pair_is) counts in
-    let after : State = called q (cleared q (marked p.member (Proved w.used) before)) in
+    let is_judged = judged g.L.Run.pair g.L.Run.k before.classes w p c.into_used-used.ensures.passed c.requires.about found_is.phased (own_is.phased ∙ ap phases c.self.invariant.1.pair_is) counts in
+    let after : State = called q (cleared q (marked p.member (Proved p.rep w.used) before)) in
     let is = running_after g.L.Run.pair g.L.Run.k g.L.Run.workers g.L.Run.opening before after i.journal.entries q (Counted p w.used) (inside, refl, (is_judged.0, refl)) is_judged.1 was in (
-      rw (c.note.ensures.calls, c.note.ensures.entries, c.used-used.ensures.used) is,
+      rw (c.note.ensures.calls, c.note.ensures.entries, c.into_used-used.ensures.one, c.into_used-used.ensures.other) is,
       c.self.invariant.1,
-      rw (c.note.ensures.calls, c.note.ensures.entries, c.used-used.ensures.used) (held_after (places_of g.L.Run.pair) i.cursor i.cursor i.waiting i.owed.total i.journal.room c.note.new.journal.room g.L.Ledger.parts i.rest.parts before after i.journal.entries (next_entry before q (Counted p w.used)) held c.note.ensures.room (omega (arith, room, c.requires.room))
-          (λ m lt open_now. held.passed m lt (open_now.0, was_there i.marks.items p.member m (Proved w.used) Open Open (λ (e : Proved w.used ≡ Open). cc) open_now.1)) held.cursor_in),
+      rw (c.note.ensures.calls, c.into_used-used.ensures.one) (held_after (places_of g.L.Run.pair) i.cursor i.cursor i.waiting i.owed.total i.journal.room c.note.new.journal.room g.L.Ledger.parts i.rest.parts before after held c.note.ensures.room (omega (arith, room, c.requires.room))
+          (λ m lt open_now. held.passed m lt (open_now.0, was_there i.marks.items p.member m (Proved p.rep w.used) Open Open (λ (e : Proved p.rep w.used ≡ Open). cc) open_now.1)) held.cursor_in),
     )

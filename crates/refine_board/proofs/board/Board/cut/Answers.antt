@@ -1,12 +1,12 @@
-use Rattle.std.proofs.Common.{◌≡◌, ◌∙◌, ◌<◌, ◌+◌, ◌-◌, ℕ, List, Bool, length, map, arith, refl, sym, subst, ap}
+use Rattle.std.proofs.Common.{◌≡◌, ◌∙◌, ◌<◌, ◌+◌, ◌-◌, ℕ, List, Bool, length, arith, refl, sym, subst, ap}
 use Rattle.circ_model.specs.Meaning.{Pair, places_of}
 use Rattle.circ_model.specs.Correspondence.{MaySplit}
 use Rattle.class_partition.specs.Classes.{AreOfGreatest, HoldIn}
 use Rattle.verdict_stamp.specs.Versions.{Standing}
 use Rattle.verdict_stamp.specs.Versions as vector
 use Rattle.refine_board.specs.declared.journal.Step.TheVariants.{Already, Split}
-use Rattle.refine_board.specs.States.{State, called, cleared, lasting, released, divided}
-use Rattle.refine_board.specs.Running.{Running, IsRunning, IsOfRun, state_of, next_entry}
+use Rattle.refine_board.specs.States.{State, called, cleared, lasting_marks, released, divided}
+use Rattle.refine_board.specs.Running.{Running, IsRunning, IsOfRun, state_of}
 use Rattle.refine_board.proofs.Runs.{running_after, held_after, released_is}
 use Rattle.refine_board.proofs.Splits.{unsplit}
 use Rattle.refine_board.proofs.Dividing.{Divided, divided_is, may_of_run}
@@ -37,8 +37,8 @@ invariant_of-self g c =
     let is_after : after ≡ called q (released q before) = rw (c.release.ensures.marks, c.release.ensures.offers, number_is) (ap (called q) (sym (released_is q before))) in
     let is = running_after g.L.Run.pair g.L.Run.k g.L.Run.workers g.L.Run.opening before after i.journal.entries q (Already bits) (inside, refl, (holds, is_after)) may was in (
       rw (c.note_already.ensures.calls, c.note_already.ensures.entries, same) is,
-      subst (λ (s : Standing). IsOfRun g.L.Run.pair g.L.Run.k g.L.Run.workers g.L.Run.opening s i.first g.L.Run.list i.versions.now i.current) (sym same) of,
-      rw (c.note_already.ensures.calls, c.note_already.ensures.entries, same) (held_after places i.cursor c.release.result i.waiting i.owed.total i.journal.room c.note_already.new.journal.room g.L.Ledger.parts i.rest.parts before after i.journal.entries (next_entry before q (Already bits)) held c.note_already.ensures.room (omega (arith, room, c.requires.room))
+      subst (λ (s : Standing). IsOfRun g.L.Run.pair g.L.Run.k g.L.Run.workers g.L.Run.opening s i.first g.L.Run.list i.versions.now i.current g.L.Run.word i.word.now i.seat i.turn) (sym same) of,
+      rw (c.note_already.ensures.calls, same) (held_after places i.cursor c.release.result i.waiting i.owed.total i.journal.room c.note_already.new.journal.room g.L.Ledger.parts i.rest.parts before after held c.note_already.ensures.room (omega (arith, room, c.requires.room))
           (λ m lt open_now. held.passed m (omega (arith, lt, c.release.ensures.cursor)) (open_now.0, c.release.ensures.passed m lt open_now.1)) (omega (arith, c.release.ensures.cursor, held.cursor_in))),
     )
 
@@ -61,10 +61,10 @@ invariant_of-self-2 g c =
     let may : MaySplit g.L.Run.pair g.L.Run.k bits = may_of_run g.L.Run.pair g.L.Run.k x bits bits_is c.requires.own c.into_bits-bits.ensures.may in
     let d : Divided places before.classes bits v.classes added = divided_is g.L.Run.pair v i.version x.bits bits added of.pair_is was.supported.partition bits_is c.split_by-added.ensures.split c.split_by-added.ensures.count (omega arith) in
     let number_is : v.number ≡ i.version.number + 1 = c.split_by-added.ensures.number (omega arith) in
-    let marks_is : c.reopen.new.marks.items ≡ map lasting i.marks.items = c.reopen.ensures in
+    let marks_is : c.reopen.new.marks.items ≡ lasting_marks v.classes i.marks.items = c.reopen.ensures in
     let after : State = called q (cleared q (divided v.classes before)) in
     let is = running_after g.L.Run.pair g.L.Run.k g.L.Run.workers g.L.Run.opening before after i.journal.entries q (Split bits added) (inside, refl, (v.classes, d.split, d.some, d.count, refl)) may was in
-    (rw (c.note_split.ensures.calls, c.note_split.ensures.entries, marks_is, number_is) is, record { pair_is = c.split_by-added.ensures.product ∙ of.pair_is; k_is = c.split_by-added.ensures.k ∙ of.k_is; first_pair = of.first_pair; first_k = of.first_k; opening_is = of.opening_is; list_is = of.list_is; current_is = tt }, rw (c.note_split.ensures.calls, c.note_split.ensures.entries, marks_is, number_is) (held_after places i.cursor 0 i.waiting i.owed.total i.journal.room c.note_split.new.journal.room g.L.Ledger.parts i.rest.parts before after i.journal.entries (next_entry before q (Split bits added)) held c.note_split.ensures.room (omega (arith, room, c.requires.room)) (λ m lt open_now. absurd (omega arith)) (omega arith)))
+    (rw (c.note_split.ensures.calls, c.note_split.ensures.entries, marks_is, number_is) is, record { pair_is = c.split_by-added.ensures.product ∙ of.pair_is; k_is = c.split_by-added.ensures.k ∙ of.k_is; first_pair = of.first_pair; first_k = of.first_k; opening_is = of.opening_is; list_is = of.list_is; current_is = tt; word_is = of.word_is; seat_is = of.seat_is; board_is = of.board_is; turn_is = of.turn_is }, rw (c.note_split.ensures.calls, marks_is, number_is) (held_after places i.cursor 0 i.waiting i.owed.total i.journal.room c.note_split.new.journal.room g.L.Ledger.parts i.rest.parts before after held c.note_split.ensures.room (omega (arith, room, c.requires.room)) (λ m lt open_now. absurd (omega arith)) (omega arith)))
 
 pub returns-clause-step : goal.returns-clause-step
 returns-clause-step g c =
@@ -85,7 +85,7 @@ returns-clause-step g c =
     let may : MaySplit g.L.Run.pair g.L.Run.k bits = may_of_run g.L.Run.pair g.L.Run.k x bits bits_is c.requires.own c.into_bits-bits.ensures.may in
     let d : Divided places before.classes bits v.classes added = divided_is g.L.Run.pair v i.version x.bits bits added of.pair_is was.supported.partition bits_is c.split_by-added.ensures.split c.split_by-added.ensures.count (omega arith) in
     let number_is : v.number ≡ i.version.number + 1 = c.split_by-added.ensures.number (omega arith) in
-    let marks_is : c.reopen.new.marks.items ≡ map lasting i.marks.items = c.reopen.ensures in
+    let marks_is : c.reopen.new.marks.items ≡ lasting_marks v.classes i.marks.items = c.reopen.ensures in
     let after : State = called q (cleared q (divided v.classes before)) in
     rw (← c.self.view_is, ← bits_is) ((inside, refl, (v.classes, d.split, d.some, d.count, rw (c.note_split.ensures.calls, marks_is, number_is) refl)), c.note_split.ensures.entries)
 
@@ -104,3 +104,15 @@ returns-clause-stays g c of =
     let d : Divided places before.classes bits v.classes added = divided_is g.L.Run.pair v i.version x.bits bits added c.self.invariant.1.pair_is was.supported.partition bits_is c.split_by-added.ensures.split c.split_by-added.ensures.count (omega arith) in
     let classes_is : before.classes ≡ c.args.self.now.state.classes = ap (λ (r : Running). r.state.classes) c.self.view_is in
     (unsplit g.L.Run.pair g.L.Run.k (Split bits added) before v.classes was.supported (subst (AreOfGreatest g.L.Run.pair g.L.Run.k) (sym classes_is) of) may (d.split, d.some, d.count)).0 ∙ classes_is
+
+pub reopen-requires : goal.reopen-requires
+reopen-requires g c =
+    let i = c.self.inside in
+    let before : State = state_of i.version i.marks.items i.calls.items i.offers.items in
+    let was : IsRunning g.L.Run.pair g.L.Run.k g.L.Run.workers g.L.Run.opening before i.journal.entries = c.self.invariant.0 in
+    let places : ℕ = places_of g.L.Run.pair in
+    let x : vector.Split = c.args.vector in
+    let v : Standing = c.split_by-added.new.self in
+    let added : ℕ = c.split_by-added.result in
+    let d : Divided places before.classes x.bits v.classes added = divided_is g.L.Run.pair v i.version x.bits x.bits added c.self.invariant.1.pair_is was.supported.partition refl c.split_by-added.ensures.split c.split_by-added.ensures.count (omega arith) in
+    was.supported.marks ∙ sym d.split.partition.least_len

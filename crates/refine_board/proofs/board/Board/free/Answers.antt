@@ -1,7 +1,7 @@
 use Rattle.std.proofs.Common.{◌≡◌, ◌<◌, ◌-◌, ℕ, length, arith, refl, sym, subst, ap}
 use Rattle.circ_model.specs.Meaning.{places_of}
 use Rattle.refine_board.specs.States.{State, called, released}
-use Rattle.refine_board.specs.Running.{Running, IsRunning, Frees, state_of, next_entry}
+use Rattle.refine_board.specs.Running.{Running, IsRunning, Frees, state_of}
 use Rattle.refine_board.proofs.Runs.{running_after, held_after, released_is, frees_does}
 use Rattle.refine_board.proofs.board.Board.free.Goals as goal
 
@@ -21,6 +21,6 @@ invariant_of-self g c =
     let is = running_after g.L.Run.pair g.L.Run.k g.L.Run.workers g.L.Run.opening before after i.journal.entries q c.args.step (inside, refl, does.0) does.1 was in (
       rw (c.note.ensures.calls, c.note.ensures.entries) is,
       c.self.invariant.1,
-      rw (c.note.ensures.calls, c.note.ensures.entries) (held_after (places_of g.L.Run.pair) i.cursor c.release.result i.waiting i.owed.total i.journal.room c.note.new.journal.room g.L.Ledger.parts i.rest.parts before after i.journal.entries (next_entry before q c.args.step) held c.note.ensures.room (omega (arith, room, c.requires.room))
+      rw c.note.ensures.calls (held_after (places_of g.L.Run.pair) i.cursor c.release.result i.waiting i.owed.total i.journal.room c.note.new.journal.room g.L.Ledger.parts i.rest.parts before after held c.note.ensures.room (omega (arith, room, c.requires.room))
           (λ m lt open_now. held.passed m (omega (arith, lt, c.release.ensures.cursor)) (open_now.0, c.release.ensures.passed m lt open_now.1)) (omega (arith, c.release.ensures.cursor, held.cursor_in))),
     )

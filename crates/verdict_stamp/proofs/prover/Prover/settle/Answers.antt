@@ -1,4 +1,7 @@
-use Rattle.std.proofs.Common.{◌∙◌}
+use Rattle.std.proofs.Common.{◌∙◌, IfOk, subst}
+use Rattle.used_pairs.specs.Latches.{AreByNext}
+use Rattle.verdict_stamp.specs.Proofs.{RestsOnLess}
+use Rattle.verdict_stamp.specs.Versions.{Standing}
 use Rattle.verdict_stamp.proofs.Proving.{apart_by}
 use Rattle.verdict_stamp.proofs.prover.Prover.settle.Goals as goal
 
@@ -10,6 +13,6 @@ pub returns-in-Some-2-clause-settled : goal.returns-in-Some-2-clause-settled
 returns-in-Some-2-clause-settled c =
     apart_by c.held.new.self c.args.self.now c.args.pair.member c.in_ok-vector-2.field-0 c.in-Some-2.vector (c.held.ensures.kept ∙ c.self.view_is) c.in-Some-2.is c.in_ok-vector-2.ensures.some
 
-pub returns-in-Some-3-clause-settled : goal.returns-in-Some-3-clause-settled
-returns-in-Some-3-clause-settled c =
-    apart_by c.base_vector.new.self c.args.self.now c.args.pair.member c.in_ok-vector-3.field-0 c.in-Some-3.vector (c.base_vector.ensures.kept ∙ c.held.ensures.kept ∙ c.self.view_is) c.in-Some-3.is c.in_ok-vector-3.ensures.some
+pub returns-clause-latches : goal.returns-clause-latches
+returns-clause-latches c =
+    subst (λ (v : Standing). IfOk c.settle_step.result (λ proof. AreByNext v.pair v.classes c.args.pair → RestsOnLess proof)) (c.base_vector.ensures.kept ∙ c.held.ensures.kept ∙ c.self.view_is) c.settle_step.ensures.latches

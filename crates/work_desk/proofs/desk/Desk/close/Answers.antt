@@ -1,5 +1,4 @@
-use Rattle.std.proofs.Common.{◌≡◌, ◌∙◌, ◌≤◌, ◌+◌, ◌^◌, refl, sym, subst}
-use Rattle.work_desk.specs.Desks.{held, IsDesk}
+use Rattle.std.proofs.Common.{◌≡◌, ◌≤◌, ◌+◌, ◌^◌, refl, subst}
 use Rattle.work_desk.proofs.Steps.{outcome}
 use Rattle.work_desk.proofs.desk.Desk.close.Goals as goal
 
@@ -7,7 +6,6 @@ pub returns-clause-outcome : goal.returns-clause-outcome
 returns-clause-outcome g c =
     let i = c.self.inside in
     let back = c.if-not-all_back.ensures in
-    outcome g.L.Run.pair g.L.Run.k g.L.Run.workers g.L.Run.opening i.board i.ledgers g.E.Ledger.parts g.O.Ledger.parts c.close.result.0 c.close.result.1.entries
-    (subst (λ b. IsDesk g.L.Run.pair g.L.Run.k g.L.Run.workers (held i.board b) i.ledgers g.E.Ledger.parts g.O.Ledger.parts) c.if-stopped.false c.self.invariant)
-    (subst (λ n. i.ledgers.weights + 1 ≡ 2 ^ n) c.requires.all (back.weights refl)) (subst (λ n. i.ledgers.ends ≤ n) c.requires.all (back.few refl)) (λ e. back.owed refl (e ∙ sym c.requires.all))
+    outcome g.L.Run.pair g.L.Run.k g.L.Run.workers g.L.Run.opening i.board i.ledgers g.E.Ledger.parts g.O.Ledger.parts c.close.result.0 c.close.result.1.entries c.self.invariant
+    (subst (λ n. i.ledgers.weights + 1 ≡ 2 ^ n) c.requires.all (back.weights refl)) (subst (λ n. i.ledgers.ends ≤ n) c.requires.all (back.few refl))
     c.close.ensures.version c.close.ensures.entries c.close.ensures.legal

@@ -1,14 +1,18 @@
-use Rattle.std.proofs.Common.{◌<◌, sym, subst}
+use Rattle.std.proofs.Common.{subst}
+use Rattle.circ_model.specs.Meaning.{places_of}
 use Rattle.refine_board.specs.declared.journal.Step.{Step}
 use Rattle.refine_board.specs.Answers.{cut_step}
-use Rattle.work_desk.proofs.Steps.{desk_step, cut_lawful, cut_is, owes_less}
+use Rattle.work_desk.specs.Desks.{Held, IsCutAt}
+use Rattle.work_desk.proofs.Steps.{run_answered, cut_lawful, cut_is}
 use Rattle.work_desk.proofs.desk.Desk.split.Goals as goal
 
 pub invariant_of-self : goal.invariant_of-self
 invariant_of-self g c =
     let i = c.self.inside in
-    let event : Step = cut_step c.split_own.result c.args.vector.bits in
-    let is = cut_is c.split_own.result c.args.vector.bits in
-    desk_step g.L.Run.pair g.L.Run.k g.L.Run.workers i.board c.split_own.new.self i.stopped i.stopped c.args.offer.party event i.ledgers c.pay.new.self g.E.Ledger.parts g.O.Ledger.parts c.self.invariant c.split_own.ensures.step
-    (subst (λ p. p < g.L.Run.workers) (sym c.requires.party.0) c.requires.party.1) c.split_own.ensures.stays (λ yes. yes) (cut_lawful i.stopped c.split_own.result c.args.vector.bits c.split_own.ensures.own)
-    is.0 c.pay.ensures.ends.1 c.pay.ensures.ends.0 (owes_less event i.ledgers c.pay.new.self is.1 is.2 c.pay.ensures.owed)
+    let event : Step = cut_step c.split_own_at.result c.args.vector.bits in
+    let is = cut_is c.split_own_at.result c.args.vector.bits in
+    run_answered g.L.Run.pair g.L.Run.k g.L.Run.workers i.board c.split_own_at.new.self c.args.claimed event i.ledgers g.E.Ledger.parts g.O.Ledger.parts c.self.invariant c.split_own_at.ensures.step
+    c.requires.party c.split_own_at.ensures.stays (cut_lawful c.split_own_at.result c.args.vector.bits c.split_own_at.ensures.own) is.0 is.1 is.2
+
+pub returns : goal.returns
+returns g c = subst (λ (h : Held). IsCutAt (places_of g.L.Run.pair) h.board c.split_own_at.new.self c.args.claimed c.args.vector.bits) c.self.view_is (c.split_own_at.result, c.split_own_at.ensures.step)

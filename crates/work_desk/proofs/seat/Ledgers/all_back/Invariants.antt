@@ -8,7 +8,7 @@ abbrev pub invariant-loop-back : goal.invariant-loop-back
 invariant-loop-back g l = (l.weights.parts + length l.told.items ≡ length l.fn.told.items) × (l.weights.amount + 2 ^ length l.told.items ≡ 2 ^ length l.fn.told.items)
     × (l.parts.parts + length l.told.items ≡ length l.fn.told.items) × (l.parts.amount ≡ 0) × HaveEnded l.told.items
     × ((i : ℕ) → i < length l.told.items → slice_index_or l.told.items i None ≡ slice_index_or l.fn.told.items i None)
-    × (l.ends.total ≡ l.fn.self.weights) × (l.owed.total ≡ l.fn.self.owed) × (l.ended.parts ≡ l.fn.self.ends) × (l.ended.amount ≡ 0)
+    × (l.ends.total ≡ l.fn.self.weights) × (l.ended.parts ≡ l.fn.self.ends) × (l.ended.amount ≡ 0)
 
 abbrev pub decreases-loop-back : goal.decreases-loop-back
 decreases-loop-back g l = length l.told.items
