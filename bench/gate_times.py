@@ -10,7 +10,7 @@ processor, seconds that passed, kind, crate, number of the process.
 
 The kinds: "proof" of a crate from nothing, "tests" with its tests, "seed" for the second proof with which a crate's
 must-fail edits begin and for the look with which they end, "edit" for each of them (CRATE/NUMBER, in the order of their
-names), "build" of a program or of its tests by a compiler, "other" for checks by hand. The table adds them up; with
+names; in kits that keep nothing between runs: in the order of their tries), "build" of a program or of its tests by a compiler, "other" for checks by hand. The table adds them up; with
 --edits the dearest edits are named, at the top of the repository. A process that lives for less than the half second
 between two looks is missed."""
 import glob
@@ -41,7 +41,21 @@ def name_and_kind(words, folder):
     over = words[words.index("--incremental") + 1] if "--incremental" in words else ""
     if over.endswith("/seed"):
         return name, "seed"
+    if "rt-edits" in over:
+        return name_of_try(name, TRIES.setdefault(over, []), folder)
     return (f"{name}/{os.path.basename(over)}" if over else name), "edit"
+
+
+# By the folder in which what a check keeps is shared: the folders of the tries that begin with it.
+TRIES = {}
+
+
+def name_of_try(name, tries, folder):
+    """A try of a kit that has one such folder for all: the first is the second proof."""
+    if folder not in tries:
+        tries.append(folder)
+    number = tries.index(folder)
+    return (f"{name}/{number - 1}", "edit") if number else (name, "seed")
 
 
 def kind_of(words, folder):
