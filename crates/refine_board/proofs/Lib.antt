@@ -1,4 +1,5 @@
 pub mod Lasting
+pub mod Reopening
 pub mod Supported
 pub mod Splits
 pub mod Offers

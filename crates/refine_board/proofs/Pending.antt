@@ -9,7 +9,7 @@ use Rattle.refine_board.specs.declared.marks.Mark.{Mark}
 use Rattle.refine_board.specs.declared.marks.Mark.TheVariants.{Open}
 use Rattle.refine_board.specs.States.{is_open, is_open_at}
 
-range_more : (from n : ℕ) → range_with_len from (n + 1) ≡ range_with_len from n ++ (from + n) ∷ []
+pub range_more : (from n : ℕ) → range_with_len from (n + 1) ≡ range_with_len from n ++ (from + n) ∷ []
 range_more from zero = let e : from ≡ from + 0 = omega arith in ap (λ (m : ℕ). m ∷ []) e
 range_more from (suc n) =
     let e : (from + 1) + n ≡ from + suc n = omega arith in

@@ -1,4 +1,5 @@
 pub mod States
+pub mod Touched
 pub mod Schedules
 pub mod Tallies
 pub mod Running

@@ -14,9 +14,10 @@ ghost use Rattle.verdict_stamp.specs.Published.{IsStampOf};
 
 use crate::answers::{Cut, Kept, Offer, Take};
 use crate::journal::{Journal, Step};
-use crate::marks::{LastOffer, Mark, no_calls, no_offers, open_marks};
+use crate::marks::{LastOffer, no_calls, no_offers};
 use crate::run::Run;
 use crate::same::is_under;
+use crate::touched::Marks;
 use claim_word::{ClaimWord, Seat};
 use std::alloc::{AllocError, Global};
 use std::marker::Model;
@@ -37,7 +38,7 @@ pub struct Board<'v, 'p, L: Run> {
     pub(crate) word: &'v ClaimWord,
     pub(crate) seat: Seat,
     pub(crate) turn: u32,
-    pub(crate) marks: Vec<Mark>,
+    pub(crate) marks: Marks,
     pub(crate) calls: Vec<u64>,
     pub(crate) offers: Vec<Option<LastOffer>>,
     pub(crate) journal: Journal,
@@ -55,11 +56,11 @@ impl<'v, 'p, L: Run> Model for Board<'v, 'p, L> {
 
     ghost Value = { Running };
 
-    ghost view = { λ b. record { state = state_of b.version b.marks.items b.calls.items b.offers.items; entries = b.journal.entries; room = b.journal.room - b.owed.total; owed = b.waiting; current = b.current; seat = b.seat } };
+    ghost view = { λ b. record { state = state_of b.version b.marks b.calls.items b.offers.items; entries = b.journal.entries; room = b.journal.room - b.owed.total; owed = b.waiting; current = b.current; seat = b.seat } };
 
-    ghost invariant = { λ b. IsRunning L.pair L.k L.workers L.opening (state_of b.version b.marks.items b.calls.items b.offers.items) b.journal.entries
+    ghost invariant = { λ b. IsRunning L.pair L.k L.workers L.opening (state_of b.version b.marks b.calls.items b.offers.items) b.journal.entries
         × IsOfRun L.pair L.k L.workers L.opening b.version b.first L.list b.versions.now b.current L.word b.word.now b.seat b.turn
-        × IsHeld (places_of L.pair) (state_of b.version b.marks.items b.calls.items b.offers.items) b.cursor b.waiting b.owed.total b.journal.room L.parts b.rest.parts };
+        × IsHeld (places_of L.pair) (state_of b.version b.marks b.calls.items b.offers.items) b.cursor b.waiting b.owed.total b.journal.room L.parts b.rest.parts };
 }
 
 impl<'v, 'p, L: Run> Board<'v, 'p, L> {
@@ -88,7 +89,7 @@ impl<'v, 'p, L: Run> Board<'v, 'p, L> {
         let version = first.copy(alloc)?;
         let places = first.classes().len();
         let parties = workers as usize + 1;
-        let marks = open_marks(alloc, places)?;
+        let marks = Marks::open(alloc, places)?;
         let calls = no_calls(alloc, parties)?;
         let offers = no_offers(alloc, parties)?;
         let (owed, rest) = blank.open::<L>();

@@ -14,6 +14,7 @@ mod marks;
 mod run;
 mod same;
 mod steps;
+mod touched;
 
 pub use answers::{Claimed, Cut, Kept, Look, Offer, Pass, Take};
 pub use board::Board;

@@ -5,14 +5,15 @@ ghost use Rattle.class_partition.specs.Classes.{IsNeeded};
 ghost use Rattle.refine_board.specs.declared.marks.Mark.TheVariants.{Open};
 ghost use Rattle.refine_board.specs.declared.marks.LastOffer.{LastOffer};
 ghost use Rattle.refine_board.specs.declared.journal.Step.TheVariants.{Already, Split};
-ghost use Rattle.refine_board.specs.States.{is_counted, is_open, is_open_at, lasting, lasting_marks, most_open, open_list};
+ghost use Rattle.refine_board.specs.States.{is_counted, is_open, is_open_at, lasting, most_open, open_list};
 ghost use Rattle.refine_board.specs.Running.{IsMarkedAt, reopened_marks, uncounted};
 
 use crate::journal::{Entry, Journal, Step};
+use crate::touched::Marks;
 use bit_rows::BitRow;
 use class_partition::{Classes, Needed};
 use std::alloc::{AllocError, Global};
-use verdict_stamp::{Used, Version};
+use verdict_stamp::Used;
 
 /// How far a needed pair is.
 #[derive(Drop)]
@@ -206,17 +207,17 @@ pub(crate) fn note_already(calls: &mut Vec<u64>, journal: &mut Journal, party: u
 // which to look for open pairs.
 pub(crate) fn release(
     number: u32,
-    marks: &mut Vec<Mark>,
+    marks: &mut Marks,
     offers: &mut Vec<Option<LastOffer>>,
     cursor: u32,
     party: u32,
 ) -> u32
     requires party { party < length offers.old.items }
-    requires within { (o : LastOffer) → slice_index_or offers.old.items party None ≡ Some o → o.pair.member < length marks.old.items }
-    ensures marks { marks.new.items ≡ reopened_marks (slice_index_or offers.old.items party None) number marks.old.items }
+    requires within { (o : LastOffer) → slice_index_or offers.old.items party None ≡ Some o → o.pair.member < length marks.old }
+    ensures marks { marks.new ≡ reopened_marks (slice_index_or offers.old.items party None) number marks.old }
     ensures offers { offers.new.items ≡ set offers.old.items party None }
     ensures cursor { result ≤ cursor }
-    ensures passed { (m : ℕ) → m < result → slice_index_or marks.new.items m Open ≡ Open → slice_index_or marks.old.items m Open ≡ Open }
+    ensures passed { (m : ℕ) → m < result → slice_index_or marks.new m Open ≡ Open → slice_index_or marks.old m Open ≡ Open }
 {
     let last = offers[party as usize];
     offers[party as usize] = None;
@@ -227,21 +228,8 @@ pub(crate) fn release(
         return cursor;
     }
     let member = offer.pair.member;
-    marks[member as usize] = Mark::Open;
+    marks.reopen(member);
     if member < cursor { member } else { cursor }
-}
-
-// What a split to a version's classes leaves of all marks: the pairs that don't stay counted are open.
-pub(crate) fn reopen(marks: &mut Vec<Mark>, version: &Version<'_>)
-    requires { length marks.old.items ≡ length version.now.classes.least }
-    ensures { marks.new.items ≡ lasting_marks version.now.classes marks.old.items }
-{
-    let classes = version.classes();
-    for i in 0..classes.len() {
-        if !marks[i as usize].lasts(classes, i) {
-            marks[i as usize] = Mark::Open;
-        }
-    }
 }
 
 pub(crate) fn open_marks(alloc: Global, places: u32) -> Result<Vec<Mark>, AllocError>

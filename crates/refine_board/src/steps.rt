@@ -12,7 +12,7 @@ use crate::answers::{Cut, Debt, Kept, Offer};
 use crate::board::Board;
 use crate::journal::Step;
 use crate::marks::{
-    LastOffer, Mark, first_marked, note, note_already, note_split, open_members, release, reopen,
+    LastOffer, Mark, first_marked, note, note_already, note_split, open_members, release,
 };
 use crate::run::Run;
 use class_partition::Needed;
@@ -57,7 +57,12 @@ impl<'v, 'p, L: Run> Board<'v, 'p, L> {
         ensures found { result < places_of L.pair → IsOpen (places_of L.pair) self.old.state result }
         ensures before { (m : ℕ) → m < result → IsOpen (places_of L.pair) self.old.state m → ⊥ }
     {
-        let at = first_marked(self.version.classes(), &self.marks, false, self.cursor);
+        let at = first_marked(
+            self.version.classes(),
+            self.marks.as_slice(),
+            false,
+            self.cursor,
+        );
         self.cursor = at;
         at
     }
@@ -68,7 +73,7 @@ impl<'v, 'p, L: Run> Board<'v, 'p, L> {
         ensures none { result ≡ false → NoneOpen (places_of L.pair) self.now.state }
     {
         let classes = self.version.classes();
-        first_marked(classes, &self.marks, false, self.cursor) < classes.len()
+        first_marked(classes, self.marks.as_slice(), false, self.cursor) < classes.len()
     }
 
     // Whether some pair is out.
@@ -77,7 +82,7 @@ impl<'v, 'p, L: Run> Board<'v, 'p, L> {
         ensures none { result ≡ false → NoneOpen (places_of L.pair) self.now.state → AllCounted (places_of L.pair) self.now.state }
     {
         let classes = self.version.classes();
-        first_marked(classes, &self.marks, true, 0) < classes.len()
+        first_marked(classes, self.marks.as_slice(), true, 0) < classes.len()
     }
 
     // Whether the vector is of the run's netlists and k.
@@ -116,7 +121,7 @@ impl<'v, 'p, L: Run> Board<'v, 'p, L> {
             return Err(AllocError);
         }
         let turn = self.turn + 1;
-        let pending = open_members(self.alloc, self.version.classes(), &self.marks)?;
+        let pending = open_members(self.alloc, self.version.classes(), self.marks.as_slice())?;
         let pairs = pending.len() as u32;
         let Ok(copy) = self.version.copy(self.alloc) else {
             drop(pending);
@@ -293,7 +298,7 @@ impl<'v, 'p, L: Run> Board<'v, 'p, L> {
             journal,
             ..
         } = self;
-        marks[pair.member as usize] = Mark::Out;
+        marks.put(pair.member, Mark::Out);
         offers[party as usize] = Some(LastOffer { pair, number });
         note(calls, journal, party, Step::Offered(pair));
     }
@@ -407,7 +412,7 @@ impl<'v, 'p, L: Run> Board<'v, 'p, L> {
             journal,
             ..
         } = self;
-        marks[pair.member as usize] = Mark::Proved(pair.rep, used);
+        marks.put(pair.member, Mark::Proved(pair.rep, used));
         offers[party as usize] = None;
         note(calls, journal, party, Step::Counted(pair, again));
     }
@@ -467,7 +472,7 @@ impl<'v, 'p, L: Run> Board<'v, 'p, L> {
         }
         *current = None;
         *cursor = 0;
-        reopen(marks, version);
+        marks.split(version);
         offers[party as usize] = None;
         note_split(calls, journal, party, bits, added);
         Cut::Split(added)
@@ -479,7 +484,7 @@ impl<'v, 'p, L: Run> Board<'v, 'p, L> {
         ensures yes { result ≡ true → IsOpen (places_of L.pair) self.now.state member }
         ensures no { result ≡ false → IsOpen (places_of L.pair) self.now.state member → ⊥ }
     {
-        self.marks[member as usize].is_uncounted(false)
+        self.marks.as_slice()[member as usize].is_uncounted(false)
     }
 
     // Whether the place has a needed pair that isn't counted.
@@ -492,7 +497,7 @@ impl<'v, 'p, L: Run> Board<'v, 'p, L> {
         if self.version.classes().rep(member) == member {
             return false;
         }
-        !self.marks[member as usize].is_counted()
+        !self.marks.as_slice()[member as usize].is_counted()
     }
 
     // The party takes a pair that isn't counted, where it is open, to answer it at once.

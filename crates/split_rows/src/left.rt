@@ -1,6 +1,8 @@
 //! What the rows that are held leave of the classes that are refined: parts of classes, which no row splits. A hint: no contract
 //! rests on it.
 
+ghost use Rattle.std.specs.Prelude.{◌<◌, length};
+
 use crate::words::word_at;
 use class_partition::Classes;
 use std::alloc::{AllocError, Global};
@@ -11,14 +13,14 @@ const NONE: u32 = u32::MAX;
 /// A partition finer than some classes.
 #[derive(Drop)]
 pub(crate) struct Left {
-    // by place: the least place of its part, and whether its phase is 1
+    // by place: twice the least place of its part, and one more where their phases differ
     least: Vec<u32>,
-    signs: Vec<bool>,
     // the places that aren't the least of their part
     members: Vec<u32>,
     // while rows split: the places that they have apart from the least of their part
     apart: Vec<u32>,
-    // while one row splits: by place, the least place of the part that is taken out of its part; and where there are such
+    // while one row splits: by place, the least place of the part that is taken out of its part, with the phase likewise; and where
+    // there are such
     twins: Vec<u32>,
     parted: Vec<u32>,
 }
@@ -39,6 +41,16 @@ fn write_at(numbers: &mut [u32], at: u32, number: u32) {
     }
 }
 
+// Twice the least place of a place's class, and one more where their phases differ.
+fn needed_literal(classes: &Classes, p: u32) -> u32
+    requires { p < length classes.now.least }
+{
+    let _places = classes.len();
+    let rep = classes.rep(p);
+    let turned = classes.phase(rep) != classes.phase(p);
+    rep.wrapping_mul(2) | turned as u32
+}
+
 // The word of a lane alone.
 pub(crate) fn lane_word(lane: u32) -> u64 {
     if lane < 64 { 1u64 << lane } else { 0 }
@@ -48,8 +60,7 @@ impl Left {
     // Adds all of these classes.
     fn add_all(&mut self, classes: &Classes) -> Result<(), AllocError> {
         for p in 0..classes.len() {
-            self.least.push(classes.rep(p))?;
-            self.signs.push(classes.phase(p))?;
+            self.least.push(needed_literal(classes, p))?;
             if classes.rep(p) != p {
                 self.members.push(p)?;
             }
@@ -62,7 +73,6 @@ impl Left {
         let places = classes.len();
         let mut left = Left {
             least: Vec::with_capacity(alloc, places as usize)?,
-            signs: Vec::with_capacity(alloc, places as usize)?,
             members: Vec::new(alloc),
             apart: Vec::new(alloc),
             twins: vec![in alloc; NONE; places as usize]?,
@@ -82,22 +92,14 @@ impl Left {
 
     /// Whether two places are in two parts.
     pub(crate) fn is_apart(&self, p: u32, q: u32) -> bool {
-        number_at(&self.least, p as usize) != number_at(&self.least, q as usize)
-    }
-
-    fn sign(&self, p: u32) -> bool {
-        (p as usize) < self.signs.len() && self.signs[p as usize]
+        number_at(&self.least, p as usize) / 2 != number_at(&self.least, q as usize) / 2
     }
 
     // The lanes in which a place differs from the least of its part, each with its phase.
     fn lanes_at(&self, words: &[u64], p: u32) -> u64 {
         let least = number_at(&self.least, p as usize);
-        let lanes = word_at(words, least as usize) ^ word_at(words, p as usize);
-        if self.sign(least) == self.sign(p) {
-            lanes
-        } else {
-            !lanes
-        }
+        let turned = 0u64.wrapping_sub((least & 1) as u64);
+        word_at(words, (least / 2) as usize) ^ word_at(words, p as usize) ^ turned
     }
 
     // Collects the places that differ from the least of their part in some lane of a mask. Answers those lanes.
@@ -118,14 +120,14 @@ impl Left {
     // Takes a place out of its part, into the part of the places that the row takes out.
     fn part(&mut self, p: u32) -> Result<(), AllocError> {
         let least = number_at(&self.least, p as usize);
-        let twin = number_at(&self.twins, least as usize);
+        let twin = number_at(&self.twins, (least / 2) as usize);
         if twin != NONE {
-            write_at(&mut self.least, p, twin);
+            write_at(&mut self.least, p, twin ^ (least & 1));
             return Ok(());
         }
-        self.parted.push(least)?;
-        write_at(&mut self.twins, least, p);
-        write_at(&mut self.least, p, p);
+        self.parted.push(least / 2)?;
+        write_at(&mut self.twins, least / 2, p.wrapping_mul(2) | (least & 1));
+        write_at(&mut self.least, p, p.wrapping_mul(2));
         Ok(())
     }
 
@@ -156,7 +158,7 @@ impl Left {
         let mut kept = 0;
         for i in 0..self.members.len() {
             let p = number_at(&self.members, i);
-            if number_at(&self.least, p as usize) != p && kept < self.members.len() {
+            if number_at(&self.least, p as usize) / 2 != p && kept < self.members.len() {
                 self.members[kept] = p;
                 kept += 1;
             }

@@ -9,7 +9,7 @@ use Rattle.refine_board.proofs.board.Board.conclude.Goals as goal
 pub invariant_of-self : goal.invariant_of-self
 invariant_of-self g c =
     let i = c.self.inside in
-    let before : State = state_of i.version i.marks.items i.calls.items i.offers.items in
+    let before : State = state_of i.version i.marks i.calls.items i.offers.items in
     let was : IsRunning g.L.Run.pair g.L.Run.k g.L.Run.workers g.L.Run.opening before i.journal.entries = c.self.invariant.0 in
     let held = c.self.invariant.2 in
     let room : i.journal.room - i.owed.total ≡ c.args.self.now.room = ap (λ (r : Running). r.room) c.self.view_is in

@@ -15,7 +15,7 @@ use Rattle.refine_board.proofs.board.Board.cut.Goals as goal
 pub invariant_of-self : goal.invariant_of-self
 invariant_of-self g c =
     let i = c.self.inside in
-    let before : State = state_of i.version i.marks.items i.calls.items i.offers.items in
+    let before : State = state_of i.version i.marks i.calls.items i.offers.items in
     let was : IsRunning g.L.Run.pair g.L.Run.k g.L.Run.workers g.L.Run.opening before i.journal.entries = c.self.invariant.0 in
     let of = c.self.invariant.1 in
     let held = c.self.invariant.2 in
@@ -33,7 +33,7 @@ invariant_of-self g c =
     let same : v ≡ i.version = none.0 in
     let holds : HoldIn places before.classes bits = subst (HoldIn places before.classes) (sym bits_is) (subst (λ (p : Pair). HoldIn (places_of p) i.version.classes x.bits) of.pair_is none.1) in
     let number_is : c.number.result ≡ before.number = c.number.ensures ∙ ap (λ (s : Standing). s.number) same in
-    let after : State = called q (record before { marks = c.release.new.marks.items; offers = c.release.new.offers.items }) in
+    let after : State = called q (record before { marks = c.release.new.marks; offers = c.release.new.offers.items }) in
     let is_after : after ≡ called q (released q before) = rw (c.release.ensures.marks, c.release.ensures.offers, number_is) (ap (called q) (sym (released_is q before))) in
     let is = running_after g.L.Run.pair g.L.Run.k g.L.Run.workers g.L.Run.opening before after i.journal.entries q (Already bits) (inside, refl, (holds, is_after)) may was in (
       rw (c.note_already.ensures.calls, c.note_already.ensures.entries, same) is,
@@ -45,7 +45,7 @@ invariant_of-self g c =
 pub invariant_of-self-2 : goal.invariant_of-self-2
 invariant_of-self-2 g c =
     let i = c.self.inside in
-    let before : State = state_of i.version i.marks.items i.calls.items i.offers.items in
+    let before : State = state_of i.version i.marks i.calls.items i.offers.items in
     let was : IsRunning g.L.Run.pair g.L.Run.k g.L.Run.workers g.L.Run.opening before i.journal.entries = c.self.invariant.0 in
     let of = c.self.invariant.1 in
     let held = c.self.invariant.2 in
@@ -61,7 +61,7 @@ invariant_of-self-2 g c =
     let may : MaySplit g.L.Run.pair g.L.Run.k bits = may_of_run g.L.Run.pair g.L.Run.k x bits bits_is c.requires.own c.into_bits-bits.ensures.may in
     let d : Divided places before.classes bits v.classes added = divided_is g.L.Run.pair v i.version x.bits bits added of.pair_is was.supported.partition bits_is c.split_by-added.ensures.split c.split_by-added.ensures.count (omega arith) in
     let number_is : v.number ≡ i.version.number + 1 = c.split_by-added.ensures.number (omega arith) in
-    let marks_is : c.reopen.new.marks.items ≡ lasting_marks v.classes i.marks.items = c.reopen.ensures in
+    let marks_is : c.split.new.self ≡ lasting_marks v.classes i.marks = c.split.ensures in
     let after : State = called q (cleared q (divided v.classes before)) in
     let is = running_after g.L.Run.pair g.L.Run.k g.L.Run.workers g.L.Run.opening before after i.journal.entries q (Split bits added) (inside, refl, (v.classes, d.split, d.some, d.count, refl)) may was in
     (rw (c.note_split.ensures.calls, c.note_split.ensures.entries, marks_is, number_is) is, record { pair_is = c.split_by-added.ensures.product ∙ of.pair_is; k_is = c.split_by-added.ensures.k ∙ of.k_is; first_pair = of.first_pair; first_k = of.first_k; opening_is = of.opening_is; list_is = of.list_is; current_is = tt; word_is = of.word_is; seat_is = of.seat_is; board_is = of.board_is; turn_is = of.turn_is }, rw (c.note_split.ensures.calls, marks_is, number_is) (held_after places i.cursor 0 i.waiting i.owed.total i.journal.room c.note_split.new.journal.room g.L.Ledger.parts i.rest.parts before after held c.note_split.ensures.room (omega (arith, room, c.requires.room)) (λ m lt open_now. absurd (omega arith)) (omega arith)))
@@ -69,7 +69,7 @@ invariant_of-self-2 g c =
 pub returns-clause-step : goal.returns-clause-step
 returns-clause-step g c =
     let i = c.self.inside in
-    let before : State = state_of i.version i.marks.items i.calls.items i.offers.items in
+    let before : State = state_of i.version i.marks i.calls.items i.offers.items in
     let was : IsRunning g.L.Run.pair g.L.Run.k g.L.Run.workers g.L.Run.opening before i.journal.entries = c.self.invariant.0 in
     let of = c.self.invariant.1 in
     let held = c.self.invariant.2 in
@@ -85,14 +85,14 @@ returns-clause-step g c =
     let may : MaySplit g.L.Run.pair g.L.Run.k bits = may_of_run g.L.Run.pair g.L.Run.k x bits bits_is c.requires.own c.into_bits-bits.ensures.may in
     let d : Divided places before.classes bits v.classes added = divided_is g.L.Run.pair v i.version x.bits bits added of.pair_is was.supported.partition bits_is c.split_by-added.ensures.split c.split_by-added.ensures.count (omega arith) in
     let number_is : v.number ≡ i.version.number + 1 = c.split_by-added.ensures.number (omega arith) in
-    let marks_is : c.reopen.new.marks.items ≡ lasting_marks v.classes i.marks.items = c.reopen.ensures in
+    let marks_is : c.split.new.self ≡ lasting_marks v.classes i.marks = c.split.ensures in
     let after : State = called q (cleared q (divided v.classes before)) in
     rw (← c.self.view_is, ← bits_is) ((inside, refl, (v.classes, d.split, d.some, d.count, rw (c.note_split.ensures.calls, marks_is, number_is) refl)), c.note_split.ensures.entries)
 
 pub returns-clause-stays : goal.returns-clause-stays
 returns-clause-stays g c of =
     let i = c.self.inside in
-    let before : State = state_of i.version i.marks.items i.calls.items i.offers.items in
+    let before : State = state_of i.version i.marks i.calls.items i.offers.items in
     let was : IsRunning g.L.Run.pair g.L.Run.k g.L.Run.workers g.L.Run.opening before i.journal.entries = c.self.invariant.0 in
     let places : ℕ = places_of g.L.Run.pair in
     let x : vector.Split = c.args.vector in
@@ -105,10 +105,10 @@ returns-clause-stays g c of =
     let classes_is : before.classes ≡ c.args.self.now.state.classes = ap (λ (r : Running). r.state.classes) c.self.view_is in
     (unsplit g.L.Run.pair g.L.Run.k (Split bits added) before v.classes was.supported (subst (AreOfGreatest g.L.Run.pair g.L.Run.k) (sym classes_is) of) may (d.split, d.some, d.count)).0 ∙ classes_is
 
-pub reopen-requires : goal.reopen-requires
-reopen-requires g c =
+pub split-requires : goal.split-requires
+split-requires g c =
     let i = c.self.inside in
-    let before : State = state_of i.version i.marks.items i.calls.items i.offers.items in
+    let before : State = state_of i.version i.marks i.calls.items i.offers.items in
     let was : IsRunning g.L.Run.pair g.L.Run.k g.L.Run.workers g.L.Run.opening before i.journal.entries = c.self.invariant.0 in
     let places : ℕ = places_of g.L.Run.pair in
     let x : vector.Split = c.args.vector in

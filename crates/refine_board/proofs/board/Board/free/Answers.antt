@@ -8,14 +8,14 @@ use Rattle.refine_board.proofs.board.Board.free.Goals as goal
 pub invariant_of-self : goal.invariant_of-self
 invariant_of-self g c =
     let i = c.self.inside in
-    let before : State = state_of i.version i.marks.items i.calls.items i.offers.items in
+    let before : State = state_of i.version i.marks i.calls.items i.offers.items in
     let was : IsRunning g.L.Run.pair g.L.Run.k g.L.Run.workers g.L.Run.opening before i.journal.entries = c.self.invariant.0 in
     let held = c.self.invariant.2 in
     let room : i.journal.room - i.owed.total ≡ c.args.self.now.room = ap (λ (r : Running). r.room) c.self.view_is in
     let q : ℕ = c.args.party in
     let inside : q < length before.calls = omega (arith, c.requires.party, was.calls) in
     let frees : Frees g.L.Run.pair g.L.Run.k before c.args.step = subst (λ (r : Running). Frees g.L.Run.pair g.L.Run.k r.state c.args.step) (sym c.self.view_is) c.requires.frees in
-    let after : State = called q (record before { marks = c.release.new.marks.items; offers = c.release.new.offers.items }) in
+    let after : State = called q (record before { marks = c.release.new.marks; offers = c.release.new.offers.items }) in
     let is_after : after ≡ called q (released q before) = rw (c.release.ensures.marks, c.release.ensures.offers, c.number.ensures) (ap (called q) (sym (released_is q before))) in
     let does = frees_does g.L.Run.pair g.L.Run.k q c.args.step before after frees is_after in
     let is = running_after g.L.Run.pair g.L.Run.k g.L.Run.workers g.L.Run.opening before after i.journal.entries q c.args.step (inside, refl, does.0) does.1 was in (

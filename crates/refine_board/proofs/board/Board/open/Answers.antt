@@ -19,7 +19,7 @@ invariant_of-result g c =
     let len_is : c.len-places.result ≡ places = c.len-places.ensures.places ∙ ap (λ (x : Classes). length x.least) c.classes.ensures.classes ∙ partition.least_len in
     let parties_is : c.args.workers + 1 ≡ g.L.Run.workers + 1 = omega (arith, c.requires.workers) in
     let version_is : c.in_ok-version.version ≡ v = c.in_ok-version.ensures in
-    let marks_is : c.in_ok-marks.marks.items ≡ replicate places Open = c.in_ok-marks.ensures ∙ ap (λ (n : ℕ). replicate n Open) len_is in
+    let marks_is : c.in_ok-marks.marks ≡ replicate places Open = c.in_ok-marks.ensures ∙ ap (λ (n : ℕ). replicate n Open) len_is in
     let calls_is : c.in_ok-calls.calls.items ≡ replicate (g.L.Run.workers + 1) 0 = c.in_ok-calls.ensures ∙ ap (λ (n : ℕ). replicate n 0) parties_is in
     let offers_is : c.in_ok-offers.offers.items ≡ replicate (g.L.Run.workers + 1) None = c.in_ok-offers.ensures ∙ ap (λ (n : ℕ). replicate {A = Option LastOffer} n None) parties_is in
     let is : IsRunning g.L.Run.pair g.L.Run.k g.L.Run.workers g.L.Run.opening (opened g.L.Run.pair g.L.Run.workers v.classes v.number) [] = running_opened g.L.Run.pair g.L.Run.k g.L.Run.workers v.number v.classes g.L.Run.opening c.requires.opening partition keeps in (
