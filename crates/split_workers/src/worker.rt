@@ -1,10 +1,10 @@
 //! A worker: it asks for a pass, claims a pair for it, settles it when it has the turn at the table, and answers, until each pair is
 //! counted or memory runs out. Questions over large cones it solves away from the table. Pairs that it finds apart it answers together,
 //! since each split publishes the version anew.
-ghost use Rattle.std.specs.Prelude.{◌≡◌, ◌<◌, IfOk, IfSome, true};
+ghost use Rattle.std.specs.Prelude.{◌≡◌, ◌+◌, ◌<◌, IfNone, IfOk, IfSome, OnErr, OnOk, OnSome, false, true};
 ghost use Rattle.prover_table.specs.Tables.{IsFoundFor};
 ghost use Rattle.work_desk.specs.Seats.{HasEnded};
-ghost use Rattle.split_workers.specs.Workers.{IsAtWork, IsTold};
+ghost use Rattle.split_workers.specs.Workers.{HasAnsweredClaims, HasInHand, HasNoneInHand, HasOneMore, IsAccountedFor, IsAtWork, IsSameWorker, IsTold};
 
 use crate::place::Place;
 use crate::room::Room;
@@ -44,19 +44,19 @@ pub(crate) struct Worker<'r, 'v, 'p, L: Run, E: Ledger, O: Ledger, G: Gate> {
 }
 
 impl<'r, 'v, 'p, L: Run, E: Ledger, O: Ledger, G: Gate> Model for Worker<'r, 'v, 'p, L, E, O, G> {
-    ghost use Rattle.std.specs.Prelude.{◌≡◌};
+    ghost use Rattle.std.specs.Prelude.{◌≡◌, length};
     ghost use Rattle.split_workers.specs.Workers.{Working, working};
 
     ghost Value = { Working };
 
-    ghost view = { λ w. working w.desk };
+    ghost view = { λ w. working w.desk (length w.pocket.items) w.ticket };
 
     ghost invariant = { λ w. w.versions.now ≡ L.list };
 }
 
 impl<'r, 'v, 'p, L: Run, E: Ledger, O: Ledger, G: Gate> Worker<'r, 'v, 'p, L, E, O, G> {
     fn into_seat(self) -> Seat<E, O>
-        ensures { (result.party ≡ self.entry.party) × (result.ended ≡ self.entry.ended) }
+        ensures { (result.party ≡ self.entry.party) × (result.ended ≡ self.entry.ended) × (result.answered ≡ self.entry.answered) }
     {
         let Worker {
             desk,
@@ -103,7 +103,7 @@ impl<'r, 'v, 'p, L: Run, E: Ledger, O: Ledger, G: Gate> Worker<'r, 'v, 'p, L, E,
     // Asks for work.
     fn ask(&mut self, rt: &impl Wait) -> Asked<'p, L>
         requires { IsAtWork self.old.party self.old }
-        ensures { IsTold L.workers self.old.party self.new result }
+        ensures { IsTold L.workers self.old self.new result }
     {
         let request = Request {
             has_turn: self.place.has_turn(),
@@ -122,7 +122,9 @@ impl<'r, 'v, 'p, L: Run, E: Ledger, O: Ledger, G: Gate> Worker<'r, 'v, 'p, L, E,
 
     // The claim that it holds, or else one that it makes; and whether it held it.
     fn claim(&mut self, rt: &impl Wait) -> Option<(Ticket, bool)>
-        ensures { self.new ≡ self.old }
+        ensures kept { IfSome result (λ r. r.1 ≡ true → (self.old.kept ≡ 1) × (self.new ≡ record self.old { kept = 0 })) }
+        ensures made { IfSome result (λ r. r.1 ≡ false → (self.old.kept ≡ 0) × (self.new ≡ record self.old { claims = self.old.claims + 1 })) }
+        ensures none { IfNone result ((self.old.kept ≡ 0) × (self.new ≡ self.old)) }
     {
         if let Some(ticket) = self.ticket.take() {
             return Some((ticket, true));
@@ -134,8 +136,9 @@ impl<'r, 'v, 'p, L: Run, E: Ledger, O: Ledger, G: Gate> Worker<'r, 'v, 'p, L, E,
     // The pair that it claims for a pass. Where there is none left, or it is of another version, the pass goes back; a new claim is kept
     // for another pass.
     fn take_up(&mut self, rt: &impl Wait, pass: Pass<'p, L>) -> Option<Claimed<'p, L>>
-        ensures kept { self.new ≡ self.old }
         ensures party { IfSome result (λ c. c.party ≡ pass.entry.party) }
+        ensures some { OnSome result (HasInHand self.old self.new) }
+        ensures none { IfNone result (HasNoneInHand self.old self.new) }
     {
         let Some((ticket, was_held)) = self.claim(rt) else {
             self.give_back(rt, pass);
@@ -207,7 +210,9 @@ impl<'r, 'v, 'p, L: Run, E: Ledger, O: Ledger, G: Gate> Worker<'r, 'v, 'p, L, E,
     // Answers that a claimed pair holds, or puts it into the pocket with a vector. Where memory ran out its pass goes back.
     fn answer(&mut self, rt: &impl Wait, claimed: Claimed<'p, L>) -> Result<(), AllocError>
         requires party { claimed.party < L.workers }
-        ensures { self.new ≡ self.old }
+        ensures same { IsSameWorker self.old self.new }
+        ensures ok { OnOk result (HasOneMore self.old self.new) }
+        ensures err { OnErr result (self.new ≡ self.old) }
     {
         self.desk.works();
         match self.settle(rt, &claimed) {
@@ -225,7 +230,9 @@ impl<'r, 'v, 'p, L: Run, E: Ledger, O: Ledger, G: Gate> Worker<'r, 'v, 'p, L, E,
 
     // Puts a pair into the pocket with a vector. Where memory ran out its pass goes back.
     fn hold(&mut self, rt: &impl Wait, found: Separated<'p, L>) -> Result<(), AllocError>
-        ensures { self.new ≡ self.old }
+        ensures same { IsSameWorker self.old self.new }
+        ensures ok { OnOk result (self.new ≡ record self.old { held = self.old.held + 1 }) }
+        ensures err { OnErr result (self.new ≡ self.old) }
     {
         if self.pocket.reserve(1).is_err() {
             self.desk.stop_with(rt, found.into_claimed().into_pass());
@@ -237,7 +244,7 @@ impl<'r, 'v, 'p, L: Run, E: Ledger, O: Ledger, G: Gate> Worker<'r, 'v, 'p, L, E,
 
     // Answers all pairs that the worker found apart.
     fn hand_in(&mut self, rt: &impl Wait)
-        ensures { self.new ≡ self.old }
+        ensures { self.new ≡ record self.old { answered = self.old.answered + self.old.held; held = 0 } }
     {
         while let Some(found) = self.pocket.pop() {
             self.desk.split(rt, found);
@@ -246,7 +253,7 @@ impl<'r, 'v, 'p, L: Run, E: Ledger, O: Ledger, G: Gate> Worker<'r, 'v, 'p, L, E,
 
     // Leaves a run for want of memory: stops it, and gives all passes back that the worker holds.
     fn leave(&mut self, rt: &impl Wait)
-        ensures { self.new ≡ self.old }
+        ensures { self.new ≡ record self.old { held = 0 } }
     {
         self.desk.stop(rt);
         while let Some(held) = self.pocket.pop() {
@@ -257,7 +264,9 @@ impl<'r, 'v, 'p, L: Run, E: Ledger, O: Ledger, G: Gate> Worker<'r, 'v, 'p, L, E,
     // Claims a pair for a pass, and answers it.
     fn work_at(&mut self, rt: &impl Wait, pass: Pass<'p, L>) -> Result<(), AllocError>
         requires party { pass.party < L.workers }
-        ensures { self.new ≡ self.old }
+        ensures same { IsSameWorker self.old self.new }
+        ensures ok { OnOk result (IsAccountedFor self.old self.new) }
+        ensures err { OnErr result (HasInHand self.old self.new) }
     {
         match self.take_up(rt, pass) {
             Some(claimed) => self.answer(rt, claimed),
@@ -272,6 +281,8 @@ impl<'r, 'v, 'p, L: Run, E: Ledger, O: Ledger, G: Gate> Worker<'r, 'v, 'p, L, E,
         requires going { IsAtWork self.old.party self.old }
         ensures party { self.new.party ≡ self.old.party }
         ensures ended { result ≡ true → self.new.ended ≡ 1 }
+        ensures held { self.new.held ≡ 0 }
+        ensures claimed { HasAnsweredClaims self.old self.new }
     {
         for _turn in rt.forever() {
             match self.ask(rt) {

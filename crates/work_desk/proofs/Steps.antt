@@ -34,6 +34,7 @@ run_opened pair k workers board t end_parts seat_parts empty none some few ends_
         lawful = subst (AreLawful workers) (sym empty) (λ i d lt. absurd (omega arith));
         weights_are = ap (λ (x : Totals). x.weights) none ∙ sym (sum_none workers (λ p. dones [] p * 2 ^ p) (λ p. omega arith)) ∙ sym (ap (weights workers) empty);
         ends_are = ap (λ (x : Totals). x.ends) none ∙ sym (sum_none workers (dones []) (λ p. refl)) ∙ sym (ap (ends workers) empty);
+        answers_are = rw (empty, none) refl;
         answered = rw empty (omega arith);
       };
       some = some;
@@ -43,17 +44,19 @@ run_opened pair k workers board t end_parts seat_parts empty none some few ends_
     }
 
 -- one entry more that tells no end, and takes nothing from the greatest classes
-pub desk_step : (pair : Pair) (k workers : ℕ) (before after : Running) (party : ℕ) (event : Step) (t : Totals) (out left : ℕ) → IsDesk pair k workers before t out
+pub desk_step : (pair : Pair) (k workers : ℕ) (before after : Running) (party : ℕ) (event : Step) (t t' : Totals) (out left : ℕ) → IsDesk pair k workers before t out
     → Appends (places_of pair) before after party event → party < workers → (AreOfGreatest pair k before.state.classes → after.state.classes ≡ before.state.classes) → IsLawful event
-    → is_done event ≡ false → out + cond (is_offered event) 1 0 ≤ left + cond (is_answer event) 1 0
-    → IsDesk pair k workers after t left
-desk_step pair k workers before after party event t out left was adds under stays ok going owes =
+    → is_done event ≡ false → t'.weights ≡ t.weights → t'.ends ≡ t.ends → t'.answered ≡ t.answered + cond (is_answer event) 1 0
+    → out + cond (is_offered event) 1 0 ≤ left + cond (is_answer event) 1 0
+    → IsDesk pair k workers after t' left
+desk_step pair k workers before after party event t t' out left was adds under stays ok going weighs ended more owes =
     let entry : Entry = next_entry before.state party event in
     record {
-      greatest = λ some. let yes = was.greatest some in subst (AreOfGreatest pair k) (sym (stays yes)) yes;
+      greatest = λ some. let yes = was.greatest (subst (λ n. 0 < n) ended some) in subst (AreOfGreatest pair k) (sym (stays yes)) yes;
       lawful = subst (AreLawful workers) (sym adds.1) (All-push (λ (x : Entry). (x.worker < workers) × IsLawful x.step) before.entries entry was.lawful (under, ok));
-      weights_are = was.weights_are ∙ sym (same_weights before.entries entry workers going) ∙ sym (ap (weights workers) adds.1);
-      ends_are = was.ends_are ∙ sym (same_ends before.entries entry workers going) ∙ sym (ap (ends workers) adds.1);
+      weights_are = weighs ∙ was.weights_are ∙ sym (same_weights before.entries entry workers going) ∙ sym (ap (weights workers) adds.1);
+      ends_are = ended ∙ was.ends_are ∙ sym (same_ends before.entries entry workers going) ∙ sym (ap (ends workers) adds.1);
+      answers_are = rw adds.1 (omega (arith, more, was.answers_are, answers_push before.entries entry));
       answered = rw adds.1 (omega (arith, owes, was.answered, answers_push before.entries entry, offered_push before.entries entry));
     }
 
@@ -64,6 +67,7 @@ desk_same pair k workers before after t out was state entries = record {
   lawful = subst (AreLawful workers) (sym entries) was.lawful;
   weights_are = was.weights_are ∙ sym (ap (weights workers) entries);
   ends_are = was.ends_are ∙ sym (ap (ends workers) entries);
+  answers_are = rw entries was.answers_are;
   answered = rw entries was.answered;
 }
 
@@ -73,20 +77,21 @@ desk_offered : (pair : Pair) (k workers : ℕ) (before middle : Running) (c : Cl
 desk_offered pair k workers before middle c t was offers under = ⊎_elim
     (λ (h : IsDue before c × Appends (places_of pair) before middle c.party (step.Offered c.pair)).
     let same : middle.state.classes ≡ before.state.classes = makes (places_of pair) c.party (step.Offered c.pair) before.state middle.state h.1.0.2 in
-    (desk_step pair k workers before middle c.party (step.Offered c.pair) t 0 1 was h.1 under (λ of. same) tt refl (omega arith), same))
+    (desk_step pair k workers before middle c.party (step.Offered c.pair) t t 0 1 was h.1 under (λ of. same) tt refl refl refl (omega arith) (omega arith), same))
     (λ (h : (IsDue before c → ⊥) × (middle.state ≡ before.state) × (middle.entries ≡ before.entries)).
     let is = desk_same pair k workers before middle t 0 was h.1 h.2 in
-    (record { greatest = is.greatest; lawful = is.lawful; weights_are = is.weights_are; ends_are = is.ends_are; answered = let a = is.answered in omega arith }, ap (λ (s : State). s.classes) h.1))
+    (record { greatest = is.greatest; lawful = is.lawful; weights_are = is.weights_are; ends_are = is.ends_are; answers_are = is.answers_are; answered = let a = is.answered in omega arith }, ap (λ (s : State). s.classes) h.1))
     offers
 
 -- and it is answered
-pub run_answered : (pair : Pair) (k workers : ℕ) (before after : Running) (c : Claiming) (event : Step) (t : Totals) (end_parts seat_parts : ℕ) → IsRun pair k workers before t end_parts seat_parts
+pub run_answered : (pair : Pair) (k workers : ℕ) (before after : Running) (c : Claiming) (event : Step) (t t' : Totals) (end_parts seat_parts : ℕ) → IsRun pair k workers before t end_parts seat_parts
     → AnswersAt (places_of pair) before after c event → c.party < workers → (AreOfGreatest pair k before.state.classes → after.state.classes ≡ before.state.classes) → IsLawful event
-    → is_done event ≡ false → is_answer event ≡ true → is_offered event ≡ false → IsRun pair k workers after t end_parts seat_parts
-run_answered pair k workers before after c event t end_parts seat_parts was (middle, offers, adds) under stays ok going answer offered =
+    → is_done event ≡ false → is_answer event ≡ true → is_offered event ≡ false → t'.weights ≡ t.weights → t'.ends ≡ t.ends → t'.answered ≡ t.answered + 1
+    → IsRun pair k workers after t' end_parts seat_parts
+run_answered pair k workers before after c event t t' end_parts seat_parts was (middle, offers, adds) under stays ok going answer offered weighs ended more =
     let mid = desk_offered pair k workers before middle c t was.desk offers under in
     record {
-      desk = desk_step pair k workers middle after c.party event t 1 0 mid.0 adds under (λ of. stays (subst (AreOfGreatest pair k) mid.1 of) ∙ sym mid.1) ok going (rw (answer, offered) (omega arith));
+      desk = desk_step pair k workers middle after c.party event t t' 1 0 mid.0 adds under (λ of. stays (subst (AreOfGreatest pair k) mid.1 of) ∙ sym mid.1) ok going weighs ended (rw answer more) (rw (answer, offered) (omega arith));
       some = was.some;
       few = was.few;
       end_parts_are = was.end_parts_are;
@@ -106,9 +111,9 @@ run_same pair k workers before after t end_parts seat_parts was state entries = 
 -- a worker more has ended, where the classes are the greatest
 pub run_ended : (pair : Pair) (k workers : ℕ) (before after : Running) (party : ℕ) (t t' : Totals) (end_parts seat_parts : ℕ) → IsRun pair k workers before t end_parts seat_parts
     → Appends (places_of pair) before after party step.Done → party < workers → AreOfGreatest pair k after.state.classes
-    → t'.weights ≡ t.weights + 2 ^ party → t'.ends ≡ t.ends + 1
+    → t'.weights ≡ t.weights + 2 ^ party → t'.ends ≡ t.ends + 1 → t'.answered ≡ t.answered
     → IsRun pair k workers after t' end_parts seat_parts
-run_ended pair k workers before after party t t' end_parts seat_parts was adds under greatest weighs ended =
+run_ended pair k workers before after party t t' end_parts seat_parts was adds under greatest weighs ended same =
     let entry : Entry = next_entry before.state party step.Done in
     record {
       desk = record {
@@ -116,6 +121,7 @@ run_ended pair k workers before after party t t' end_parts seat_parts was adds u
         lawful = subst (AreLawful workers) (sym adds.1) (All-push (λ (x : Entry). (x.worker < workers) × IsLawful x.step) before.entries entry was.desk.lawful (under, tt));
         weights_are = weighs ∙ ap (λ n. n + 2 ^ party) was.desk.weights_are ∙ sym (more_weights before.entries entry workers under refl) ∙ sym (ap (weights workers) adds.1);
         ends_are = ended ∙ ap (λ n. n + 1) was.desk.ends_are ∙ sym (more_ends before.entries entry workers under refl) ∙ sym (ap (ends workers) adds.1);
+        answers_are = rw adds.1 (omega (arith, same, was.desk.answers_are, answers_push before.entries entry));
         answered = rw adds.1 (omega (arith, was.desk.answered, answers_push before.entries entry, offered_push before.entries entry));
       };
       some = was.some;

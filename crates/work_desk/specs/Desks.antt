@@ -45,12 +45,13 @@ IsLawful (step.Already bits) = Unit {0}
 abbrev pub AreLawful : ℕ → List Entry → Type 0
 AreLawful workers entries = All (λ (e : Entry). (e.worker < workers) × IsLawful e.step) entries
 
--- the ledgers tell the ends; once a worker ended, the classes are those of the greatest correspondence; so many offers at most aren't answered
+-- the ledgers tell the ends and the answers; once a worker ended, the classes are those of the greatest correspondence; so many offers at most aren't answered
 pub record IsDesk (pair : Pair) (k workers : ℕ) (board : Running) (t : Totals) (out : ℕ) : Type 0 where
   pub greatest : 0 < t.ends → AreOfGreatest pair k board.state.classes
   pub lawful : AreLawful workers board.entries
   pub weights_are : t.weights ≡ weights workers board.entries
   pub ends_are : t.ends ≡ ends workers board.entries
+  pub answers_are : t.answered ≡ answers board.entries
   pub answered : offered_entries board.entries ≤ answers board.entries + out
 
 -- between the calls none is open

@@ -3,7 +3,7 @@
 ghost use Rattle.std.specs.Prelude.{◌≡◌, ◌≢◌, ◌⊎◌, ◌<◌, ◌≤◌, IfOk, IfErr, IfSome, IfNone, length};
 ghost use Rattle.claim_word.specs.Seats.{beside};
 ghost use Rattle.refine_board.specs.Running.{IsAbout, claiming_of};
-ghost use Rattle.work_desk.specs.Seats.{HasClaimed, HasFoundNone, Seated, calling};
+ghost use Rattle.work_desk.specs.Seats.{HasAnswered, HasClaimed, HasFoundNone, Seated, calling};
 ghost use Rattle.work_desk.specs.Desks.{IsCalled};
 
 use crate::desk::{Asked, Desk, Request};
@@ -102,7 +102,7 @@ impl<'r, 'v, 'p, L: Run, E: Ledger, O: Ledger, G: Gate> Caller<'r, 'v, 'p, L, E,
 
     /// Leaves it.
     pub fn into_seat(self) -> Seat<E, O>
-        ensures { (result.party ≡ self.entry.party) × (result.ended ≡ self.entry.ended) }
+        ensures { (result.party ≡ self.entry.party) × (result.ended ≡ self.entry.ended) × (result.answered ≡ self.entry.answered) }
     {
         let Caller { seat, .. } = self;
         seat
@@ -224,20 +224,26 @@ impl<'r, 'v, 'p, L: Run, E: Ledger, O: Ledger, G: Gate> Caller<'r, 'v, 'p, L, E,
         requires party { claimed.party < L.workers }
         requires about { IsAbout verdict claimed.pair }
         requires version { verdict.version ≡ claimed.stamp.value.version }
-        ensures { self.new ≡ self.old }
+        ensures { HasAnswered self.old self.new }
     {
         self.gate.hold();
-        self.desk.lock(rt).value().keep(claimed, verdict);
+        self.desk
+            .lock(rt)
+            .value()
+            .keep(&mut self.seat, claimed, verdict);
         self.gate.told();
     }
 
     /// Answers a vector that separates a claimed pair.
     pub fn split(&mut self, rt: &impl Wait, found: Separated<'p, L>)
-        ensures { self.new ≡ self.old }
+        ensures { HasAnswered self.old self.new }
     {
         let Separated { claimed, vector } = found;
         self.gate.hold();
-        self.desk.lock(rt).value().split(claimed, vector);
+        self.desk
+            .lock(rt)
+            .value()
+            .split(&mut self.seat, claimed, vector);
         self.gate.told();
     }
 }

@@ -1,4 +1,4 @@
-//! What lies under the lock of a run: its board, what the ends of its workers say of it, and whether memory ran out.
+//! What lies under the lock of a run: its board, what the ends and answers of its workers say of it, and whether memory ran out.
 ghost use Rattle.std.specs.Prelude.{◌≡◌, ◌<◌, ◌≤◌, ◌+◌, ◌*◌, ◌^◌, ◌⊎◌, [], true, false, length, Contains, IfNone, IfSome, is_some, None};
 ghost use Rattle.circ_model.specs.Meaning.{places_of};
 ghost use Rattle.claim_word.specs.Seats.{beside};
@@ -84,6 +84,7 @@ fn end<L: Run, E: Ledger, O: Ledger>(
     ensures greatest { AreOfGreatest L.pair L.k board.now.state.classes }
     ensures ends { ledgers.new.ends ≡ ledgers.old.ends + 1 }
     ensures weights { ledgers.new.weights ≡ ledgers.old.weights + 2 ^ seat.old.party }
+    ensures answered { ledgers.new.answered ≡ ledgers.old.answered }
     ensures seat { seat.new ≡ record seat.old { ended = 1 } }
 {
     let done = board.done();
@@ -163,23 +164,37 @@ impl<'v, 'p, L: Run, E: Ledger, O: Ledger> Desk<'v, 'p, L, E, O> {
     }
 
     /// Answers a claimed pair by a verdict that was found under its version.
-    pub(crate) fn keep(&mut self, claimed: Claimed<'p, L>, verdict: Verdict<'_, '_>)
+    pub(crate) fn keep(
+        &mut self,
+        seat: &mut Seat<E, O>,
+        claimed: Claimed<'p, L>,
+        verdict: Verdict<'_, '_>,
+    )
         requires party { claimed.party < L.workers }
         requires about { IsAbout verdict claimed.pair }
         requires version { verdict.version ≡ claimed.stamp.value.version }
-        ensures { IsKeptAt (places_of L.pair) self.old.board self.new.board claimed.entry verdict.entry.used }
+        ensures kept { IsKeptAt (places_of L.pair) self.old.board self.new.board claimed.entry verdict.entry.used }
+        ensures seat { seat.new ≡ record seat.old { answered = seat.old.answered + 1 } }
     {
         let stamp = claimed.stamp().copy();
         self.board.keep_at(claimed, verdict, &stamp);
+        self.ledgers.answer(seat);
     }
 
     /// Answers a claimed pair by a vector.
-    pub(crate) fn split(&mut self, claimed: Claimed<'p, L>, vector: Vector<'_>)
+    pub(crate) fn split(
+        &mut self,
+        seat: &mut Seat<E, O>,
+        claimed: Claimed<'p, L>,
+        vector: Vector<'_>,
+    )
         requires party { claimed.party < L.workers }
         requires own { IsOf L.pair L.k vector }
-        ensures { IsCutAt (places_of L.pair) self.old.board self.new.board claimed.entry vector.entry.bits }
+        ensures cut { IsCutAt (places_of L.pair) self.old.board self.new.board claimed.entry vector.entry.bits }
+        ensures seat { seat.new ≡ record seat.old { answered = seat.old.answered + 1 } }
     {
         self.board.split_own_at(claimed, vector);
+        self.ledgers.answer(seat);
     }
 
     /// Takes a pass back of a worker that claimed no pair for it.

@@ -1,5 +1,6 @@
 //! What a worker brings to each call of the desk, and what the desk knows of all of them: ledgers, whose units take no bytes.
-//! That each worker ended once is read off their totals when all seats are back.
+//! That each worker ended once is read off their totals when all seats are back. An answer is a unit of one of them, which only the
+//! desk gives.
 ghost use Rattle.std.specs.Prelude.{◌≡◌, ◌≤◌, ◌+◌, ◌*◌, ◌^◌, true, false, Contains, IfOk, None, length};
 ghost use Rattle.work_desk.specs.Seats.{no_totals, AreSeats, HaveEnded};
 
@@ -7,24 +8,23 @@ use std::alloc::{AllocError, Global};
 use std::marker::Model;
 use std::sync::ledger::{Blank, Book, Ledger, Share};
 
-/// A worker's seat: its number, and its shares. In ledger `E` the end of worker q counts 2^q. In ledger `O` a seat has two parts, one
-/// of which goes to the desk when the worker ends.
+/// A worker's seat: its number, and its shares. In ledger `E` the end of worker q counts 2^q. In ledger `O` each answer counts 1, and a
+/// seat has two parts, one of which goes to the desk when the worker ends.
 #[derive(Drop)]
 pub struct Seat<E: Ledger, O: Ledger> {
     party: u32,
     weight: Share<E>,
-    parts: Share<O>,
+    answers: Share<O>,
 }
 
 impl<E: Ledger, O: Ledger> Model for Seat<E, O> {
-    ghost use Rattle.std.specs.Prelude.{◌≡◌};
     ghost use Rattle.work_desk.specs.Seats.{Seated, seated, IsSeat};
 
     ghost Value = { Seated };
 
-    ghost view = { λ s. seated s.party s.parts.parts };
+    ghost view = { λ s. seated s.party s.answers.parts s.answers.amount };
 
-    ghost invariant = { λ s. IsSeat s.party s.weight.parts s.weight.amount s.parts.parts × (s.parts.amount ≡ 0) };
+    ghost invariant = { λ s. IsSeat s.party s.weight.parts s.weight.amount s.answers.parts };
 }
 
 impl<E: Ledger, O: Ledger> Seat<E, O> {
@@ -41,6 +41,7 @@ impl<E: Ledger, O: Ledger> Seat<E, O> {
 pub struct Ledgers<E: Ledger, O: Ledger> {
     ends: Book<E>,
     spare: Share<E>,
+    answered: Book<O>,
     ended: Share<O>,
 }
 
@@ -50,21 +51,31 @@ impl<E: Ledger, O: Ledger> Model for Ledgers<E, O> {
 
     ghost Value = { Totals };
 
-    ghost view = { λ l. record { weights = l.ends.total; ends = l.ended.parts } };
+    ghost view = { λ l. record { weights = l.ends.total; ends = l.ended.parts; answered = l.answered.total } };
 
     ghost invariant = { λ l. (l.ended.amount ≡ 0) × (l.spare.parts ≡ 0) × (l.spare.amount ≡ 0) };
 }
 
 impl<E: Ledger, O: Ledger> Ledgers<E, O> {
+    /// A worker answers a pair.
+    pub(crate) fn answer(&mut self, seat: &mut Seat<E, O>)
+        ensures answered { self.new.answered ≡ self.old.answered + 1 }
+        ensures ends { (self.new.ends ≡ self.old.ends) × (self.new.weights ≡ self.old.weights) }
+        ensures seat { seat.new ≡ record seat.old { answered = seat.old.answered + 1 } }
+    {
+        self.answered.add(&mut seat.answers, 1);
+    }
+
     /// A worker ends.
     pub(crate) fn end(&mut self, seat: &mut Seat<E, O>)
         requires { seat.old.ended ≡ 0 }
+        ensures answered { self.new.answered ≡ self.old.answered }
         ensures ends { self.new.ends ≡ self.old.ends + 1 }
         ensures weights { self.new.weights ≡ self.old.weights + 2 ^ seat.old.party }
         ensures seat { seat.new ≡ record seat.old { ended = 1 } }
     {
         self.ends.add(&mut seat.weight, 1 << seat.party);
-        seat.parts.give(&mut self.ended, 1, 0);
+        seat.answers.give(&mut self.ended, 1, 0);
     }
 
     /// Takes the seats of all workers back, and says whether none is missing. Then each of them ended: the totals are those of one
@@ -81,6 +92,7 @@ impl<E: Ledger, O: Ledger> Ledgers<E, O> {
             mut ends,
             spare: mut weights,
             mut ended,
+            ..
         } = self;
         let mut parts = ended.empty();
         let mut told = told;
@@ -90,11 +102,11 @@ impl<E: Ledger, O: Ledger> Ledgers<E, O> {
             };
             let Seat {
                 weight,
-                parts: two,
+                answers,
                 ..
             } = seat;
             weights.merge(weight);
-            parts.merge(two);
+            parts.merge(answers);
         }
         ends.audit(&mut weights);
         ended.merge(parts);
@@ -126,21 +138,22 @@ pub fn seats<E: Ledger, O: Ledger>(
     ensures seats { IfOk result (λ r. AreSeats workers r.1.items) }
 {
     let (ends, mut weights) = ends.open::<E>();
-    let (_, mut left) = parts.open::<O>();
+    let (answered, mut left) = parts.open::<O>();
     let mut seats = Vec::new(alloc);
     for party in 0..workers {
         let weight = weights.split_off(1, 0);
-        let parts = left.split_off(2, 0);
+        let answers = left.split_off(2, 0);
         seats.push(Seat {
             party,
             weight,
-            parts,
+            answers,
         })?;
     }
     Ok((
         Ledgers {
             ends,
             spare: weights,
+            answered,
             ended: left,
         },
         seats,

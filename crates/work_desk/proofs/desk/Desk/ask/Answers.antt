@@ -24,7 +24,7 @@ invariant_of-self-2 g c =
           rw w.self-inside-is (run_same pair k workers i.board c.look.new.self i.ledgers E O c.self.invariant is.4.0 is.4.1)
       | in-Ok-Done w ↦
           let is = subst (λ t. IsLookAt pair k g.L.Run.list party c.args.request.is_holding i.board c.look.new.self t) w.in-Ok-Done.field-0-is w.in-Ok-Done.ensures.look in
-          rw w.self-inside-is (run_ended pair k workers i.board c.look.new.self party i.ledgers w.end.new.ledgers E O c.self.invariant is.1 under w.end.ensures.greatest (w.end.ensures.weights ∙ ap (λ q. i.ledgers.weights + 2 ^ q) (sym own)) w.end.ensures.ends)
+          rw w.self-inside-is (run_ended pair k workers i.board c.look.new.self party i.ledgers w.end.new.ledgers E O c.self.invariant is.1 under w.end.ensures.greatest (w.end.ensures.weights ∙ ap (λ q. i.ledgers.weights + 2 ^ q) (sym own)) w.end.ensures.ends w.end.ensures.answered)
       | in-Err w ↦
           rw w.self-inside-is (run_same pair k workers i.board c.look.new.self i.ledgers E O c.self.invariant w.in-Err.ensures.err.0 w.in-Err.ensures.err.1)
     ]

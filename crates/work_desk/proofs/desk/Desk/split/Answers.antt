@@ -11,8 +11,8 @@ invariant_of-self g c =
     let i = c.self.inside in
     let event : Step = cut_step c.split_own_at.result c.args.vector.bits in
     let is = cut_is c.split_own_at.result c.args.vector.bits in
-    run_answered g.L.Run.pair g.L.Run.k g.L.Run.workers i.board c.split_own_at.new.self c.args.claimed event i.ledgers g.E.Ledger.parts g.O.Ledger.parts c.self.invariant c.split_own_at.ensures.step
-    c.requires.party c.split_own_at.ensures.stays (cut_lawful c.split_own_at.result c.args.vector.bits c.split_own_at.ensures.own) is.0 is.1 is.2
+    run_answered g.L.Run.pair g.L.Run.k g.L.Run.workers i.board c.split_own_at.new.self c.args.claimed event i.ledgers c.answer.new.self g.E.Ledger.parts g.O.Ledger.parts c.self.invariant c.split_own_at.ensures.step
+    c.requires.party c.split_own_at.ensures.stays (cut_lawful c.split_own_at.result c.args.vector.bits c.split_own_at.ensures.own) is.0 is.1 is.2 c.answer.ensures.ends.1 c.answer.ensures.ends.0 c.answer.ensures.answered
 
-pub returns : goal.returns
-returns g c = subst (λ (h : Held). IsCutAt (places_of g.L.Run.pair) h.board c.split_own_at.new.self c.args.claimed c.args.vector.bits) c.self.view_is (c.split_own_at.result, c.split_own_at.ensures.step)
+pub returns-clause-cut : goal.returns-clause-cut
+returns-clause-cut g c = subst (λ (h : Held). IsCutAt (places_of g.L.Run.pair) h.board c.split_own_at.new.self c.args.claimed c.args.vector.bits) c.self.view_is (c.split_own_at.result, c.split_own_at.ensures.step)
