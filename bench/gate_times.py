@@ -41,7 +41,7 @@ def name_and_kind(words, folder):
     over = words[words.index("--incremental") + 1] if "--incremental" in words else ""
     if over.endswith("/seed"):
         return name, "seed"
-    if "rt-edits" in over:
+    if "rt-edits" in over and not os.path.basename(over).isdigit():
         return name_of_try(name, TRIES.setdefault(over, []), folder)
     return (f"{name}/{os.path.basename(over)}" if over else name), "edit"
 

@@ -1,7 +1,7 @@
 //! A table of what stands at each place of a pair, with which rows are packed to the bits of their leaves and made from them.
 ghost use Rattle.std.specs.Prelude.{◌≡◌, ◌<◌, ◌≤◌, IfOk, IsTrue, length};
 ghost use Rattle.circ_model.specs.Meaning.{bit};
-ghost use Rattle.leaf_rows.specs.Rows.{cell_value, is_leaf, leaf_count, leaves_in, row_by};
+ghost use Rattle.leaf_rows.specs.Rows.{cell_value, is_leaf, leaf_count, leaves_in, row_by, IsRowOf};
 ghost use Rattle.product_machine.specs.Cells.{cells, Rests};
 
 use aig_graph::literal_bit;
@@ -93,11 +93,14 @@ impl LeafTable {
         self.cells.len() as u32
     }
 
-    /// Writes the bits of a row's leaves, in the order of their places. It takes no memory.
+    /// Writes the bits of a row's leaves, in the order of their places; a row that obeys the cells is the one that they determine. It
+    /// takes no memory.
     pub fn pack(&self, row: &BitRow, leaves: &mut BitRow)
         requires row { length row.now ≡ length self.now }
         requires leaves { length leaves.old ≡ leaf_count self.now }
-        ensures { leaves.new ≡ leaves_in self.now row.now }
+        ensures leaves { leaves.new ≡ leaves_in self.now row.now }
+        ensures size { length leaves.new ≡ leaf_count self.now }
+        ensures row { IsRowOf self.now row.now → row_by self.now leaves.new ≡ row.now }
     {
         let mut at = 0;
         for p in 0..self.len() {

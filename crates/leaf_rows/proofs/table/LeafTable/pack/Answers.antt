@@ -1,6 +1,8 @@
-use Rattle.std.proofs.Common.{◌∙◌, ◌<◌, ◌+◌, ℕ, List, Bool, length, ap, sym, subst, arith, set}
-use Rattle.leaf_rows.proofs.Leaves.{ArePacked, leaf_before, packed_leaf, packed_none, packed_other}
-use Rattle.leaf_rows.specs.Rows.{is_leaf}
+use Rattle.std.proofs.Common.{◌≡◌, ◌∙◌, ◌<◌, ◌+◌, ℕ, List, Bool, length, ap, sym, subst, arith, set}
+use Rattle.leaf_rows.proofs.Leaves.{ArePacked, leaf_before, packed_all, packed_leaf, packed_none, packed_other}
+use Rattle.leaf_rows.proofs.Rows.{only_row}
+use Rattle.leaf_rows.specs.Rows.{is_leaf, leaves_in, row_by}
+use Rattle.product_machine.specs.Cells.{IsArranged}
 use Rattle.product_machine.proofs.TableRead.{cell_read}
 use Rattle.product_machine.specs.declared.cell.Cell.{Cell}
 use Rattle.leaf_rows.proofs.table.LeafTable.pack.Goals.{then-is_leaf, else-is_leaf}
@@ -32,3 +34,11 @@ loop-p-preserved c =
           (subst (to c.loop-p.at) (sym w.leaves-is)
           (packed_other cs row c.loop-p.p c.loop-p.at c.loop-p.leaves lt (ap is_leaf read ∙ sym w.if-is_leaf.ensures) c.loop-p.invariant))
     ]
+
+-- what is packed is the row's leaves
+packed : (c : goal.After-loop-p) → c.loop-p.leaves ≡ leaves_in c.args.self.now c.args.row.now
+packed c = packed_all c.args.self.now c.args.row.now c.loop-p.p c.loop-p.at c.loop-p.leaves (omega (arith, c.loop-p-test.false, c.len-p-end.ensures)) c.loop-p.invariant
+
+pub returns-clause-row : goal.returns-clause-row
+returns-clause-row c is =
+    ap (row_by c.args.self.now) (packed c) ∙ only_row c.args.self.now c.args.row.now (subst IsArranged c.self.view_is c.self.invariant.0) is
