@@ -1,9 +1,9 @@
 //! The certificate of two toggling latches, what becomes of it when lines and bytes change, and where it is cut.
-use crate::circuits::{KEPT, TOGGLE, pair_of, tied_pair_of};
+use crate::circuits::{KEPT, TOGGLE, pair_is, tied_pair_is};
 use corr_certificate::{CertFault, CertKind, Checked, verify};
 use log_trim::trimmed;
 use product_machine::Product;
-use sat_log::{LogError, read_log, write_log};
+use sat_log::{Log, read_log, write_log};
 use std::alloc::{AllocError, Global};
 use std::test::Fail;
 
@@ -92,19 +92,32 @@ fn no_byte_is_accepted(alloc: Global, product: &Product, text: &[u8]) -> bool {
     true
 }
 
+// Whether the worked certificate is accepted, and nothing that stands close to it.
+fn is_accepted_alone(alloc: Global, product: &Product, text: &[u8]) -> bool {
+    is_yes(alloc, product, text)
+        && cuts_are_told(alloc, product, text)
+        && no_byte_is_accepted(alloc, product, text)
+}
+
+fn worked_is_accepted_alone(alloc: Global, product: &Product) -> bool {
+    match put_together(alloc, HEAD, CLASS, PARTS) {
+        Ok(text) => is_accepted_alone(alloc, product, &text),
+        Err(_) => false,
+    }
+}
+
+// Whether it is with a first line as it was before.
+fn is_accepted_as_before(alloc: Global, product: &Product) -> bool {
+    match put_together(alloc, "seccert 1 k=1 signals=3\n", CLASS, PARTS) {
+        Ok(text) => is_yes(alloc, product, &text),
+        Err(_) => false,
+    }
+}
+
 #[test]
 fn the_worked_certificate_is_accepted_alone(rt: HostRuntime) -> Result<(), Fail> {
-    let alloc = rt.alloc();
-    let text = put_together(alloc, HEAD, CLASS, PARTS)?;
-    let before = put_together(alloc, "seccert 1 k=1 signals=3\n", CLASS, PARTS)?;
-    match pair_of(alloc, TOGGLE, TOGGLE) {
-        Ok(product) => {
-            assert!(rt; is_yes(alloc, &product, &text) && is_yes(alloc, &product, &before));
-            assert!(rt; cuts_are_told(alloc, &product, &text));
-            assert!(rt; no_byte_is_accepted(alloc, &product, &text));
-        }
-        Err(_) => assert!(rt; false),
-    }
+    assert!(rt; pair_is(rt.alloc(), TOGGLE, TOGGLE, worked_is_accepted_alone));
+    assert!(rt; pair_is(rt.alloc(), TOGGLE, TOGGLE, is_accepted_as_before));
     Ok(())
 }
 
@@ -227,98 +240,118 @@ fn bad_parts_are_told(alloc: Global, product: &Product) -> bool {
 
 #[test]
 fn the_first_fault_of_a_certificate_is_told(rt: HostRuntime) -> Result<(), Fail> {
-    let alloc = rt.alloc();
-    match pair_of(alloc, TOGGLE, TOGGLE) {
-        Ok(product) => {
-            assert!(rt; bad_heads_are_told(alloc, &product));
-            assert!(rt; bad_classes_are_told(alloc, &product));
-            assert!(rt; bad_parts_are_told(alloc, &product));
-        }
-        Err(_) => assert!(rt; false),
-    }
+    assert!(rt; pair_is(rt.alloc(), TOGGLE, TOGGLE, bad_heads_are_told));
+    assert!(rt; pair_is(rt.alloc(), TOGGLE, TOGGLE, bad_classes_are_told));
+    assert!(rt; pair_is(rt.alloc(), TOGGLE, TOGGLE, bad_parts_are_told));
     Ok(())
 }
 
-// Whether the parts that need the tie are accepted after these heads, or told to have these faults.
+// Whether a certificate is accepted, or told to have this fault.
+fn is_told(alloc: Global, product: &Product, text: &[u8], fault: Option<(CertKind, u64)>) -> bool {
+    match fault {
+        Some((kind, line)) => is_no(alloc, product, text, kind, line),
+        None => is_yes(alloc, product, text),
+    }
+}
+
+// Whether the parts that need the tie are, after this head.
+fn tie_is_told(
+    alloc: Global,
+    product: &Product,
+    head: &str,
+    fault: Option<(CertKind, u64)>,
+) -> bool {
+    const TIED_PARTS: &str =
+        "base r1\n-2 0 3 6 5 0\n0 7 2 6 4 0\nstep r1\n-2 0 4 8 6 11 10 0\n0 12 3 7 5 11 9 0\nend\n";
+    match put_together(alloc, head, CLASS, TIED_PARTS) {
+        Ok(text) => is_told(alloc, product, &text, fault),
+        Err(_) => false,
+    }
+}
+
+// Whether they are after these heads.
 fn ties_are_told(
     alloc: Global,
     product: &Product,
     heads: &[(&str, Option<(CertKind, u64)>)],
-) -> Result<bool, AllocError> {
-    const TIED_PARTS: &str =
-        "base r1\n-2 0 3 6 5 0\n0 7 2 6 4 0\nstep r1\n-2 0 4 8 6 11 10 0\n0 12 3 7 5 11 9 0\nend\n";
+) -> bool {
     for &(head, fault) in heads {
-        let text = put_together(alloc, head, CLASS, TIED_PARTS)?;
-        let told = match fault {
-            Some((kind, line)) => is_no(alloc, product, text.as_slice(), kind, line),
-            None => is_yes(alloc, product, text.as_slice()),
-        };
-        if !told {
-            return Ok(false);
+        if !tie_is_told(alloc, product, head, fault) {
+            return false;
         }
     }
-    Ok(true)
+    true
 }
 
-#[test]
-fn a_certificate_of_a_tied_pair_speaks_of_ties(rt: HostRuntime) -> Result<(), Fail> {
+fn tied_pair_speaks_of_ties(alloc: Global, product: &Product) -> bool {
     const HEADS: &[(&str, Option<(CertKind, u64)>)] = &[
         ("seccert 2 k=1 signals=3 tie=1\n", None),
         ("seccert 2 k=1 signals=3 tie=0\n", Some((CertKind::Tie, 1))),
         ("seccert 1 k=1 signals=3\n", Some((CertKind::Tie, 1))),
     ];
-    match tied_pair_of(rt.alloc(), KEPT, KEPT) {
-        Ok(product) => assert!(rt; ties_are_told(rt.alloc(), &product, HEADS)?),
-        Err(_) => assert!(rt; false),
-    }
-    Ok(())
+    ties_are_told(alloc, product, HEADS)
 }
 
 #[test]
-fn a_certificate_of_an_untied_pair_speaks_of_no_ties(rt: HostRuntime) -> Result<(), Fail> {
+fn a_certificate_of_a_tied_pair_speaks_of_ties(rt: HostRuntime) -> Result<(), Fail> {
+    assert!(rt; tied_pair_is(rt.alloc(), KEPT, KEPT, tied_pair_speaks_of_ties));
+    Ok(())
+}
+
+fn untied_pair_speaks_of_none(alloc: Global, product: &Product) -> bool {
     const UNDERIVED: Option<(CertKind, u64)> = Some((CertKind::Derivation, 4));
     const HEADS: &[(&str, Option<(CertKind, u64)>)] = &[
         ("seccert 2 k=1 signals=3 tie=1\n", Some((CertKind::Tie, 1))),
         ("seccert 2 k=1 signals=3 tie=0\n", UNDERIVED),
         ("seccert 1 k=1 signals=3\n", UNDERIVED),
     ];
-    match pair_of(rt.alloc(), KEPT, KEPT) {
-        Ok(product) => assert!(rt; ties_are_told(rt.alloc(), &product, HEADS)?),
-        Err(_) => assert!(rt; false),
-    }
+    ties_are_told(alloc, product, HEADS)
+}
+
+#[test]
+fn a_certificate_of_an_untied_pair_speaks_of_no_ties(rt: HostRuntime) -> Result<(), Fail> {
+    assert!(rt; pair_is(rt.alloc(), KEPT, KEPT, untied_pair_speaks_of_none));
     Ok(())
 }
 
-// The text of a log, trimmed over a formula of six clauses.
-fn trimmed_text(alloc: Global, text: &str) -> Result<Vec<u8>, LogError> {
-    let log = read_log(alloc, text.as_bytes())?;
+// Whether a log is written as this text.
+fn is_written(alloc: Global, log: &Log, kept: &str) -> bool {
     let mut text = Vec::new(alloc);
-    let Ok(kept) = trimmed(alloc, 6, &log) else {
-        return Err(LogError::Memory);
-    };
-    match write_log(&kept, &mut text) {
-        Ok(()) => Ok(text),
-        Err(_) => Err(LogError::Memory),
+    write_log(log, &mut text).is_ok() && text.as_slice() == kept.as_bytes()
+}
+
+// Whether a log, trimmed over a formula of six clauses, is written so.
+fn is_kept(alloc: Global, log: &Log, kept: &str) -> bool {
+    match trimmed(alloc, 6, log) {
+        Ok(log) => is_written(alloc, &log, kept),
+        Err(_) => false,
     }
 }
 
 // Whether a log is trimmed to this text.
 fn is_trimmed(alloc: Global, whole: &str, kept: &str) -> bool {
-    match trimmed_text(alloc, whole) {
-        Ok(text) => text.as_slice() == kept.as_bytes(),
+    match read_log(alloc, whole.as_bytes()) {
+        Ok(log) => is_kept(alloc, &log, kept),
         Err(_) => false,
     }
 }
 
 // Whether the worked certificate is accepted with this log in its base part.
-fn is_yes_with(alloc: Global, product: &Product, base: &str) -> Result<bool, AllocError> {
+fn is_yes_with(alloc: Global, product: &Product, base: &str) -> bool {
+    match text_with(alloc, base) {
+        Ok(text) => is_yes(alloc, product, &text),
+        Err(_) => false,
+    }
+}
+
+fn text_with(alloc: Global, base: &str) -> Result<Vec<u8>, AllocError> {
     let mut text = put_together(alloc, HEAD, "class l1 r1\nbase r1\n", base)?;
     text.extend_from_slice(b"step r1\n-2 0 3 8 5 11 9 0\n0 12 4 7 6 11 10 0\nend\n")?;
-    Ok(is_yes(alloc, product, text.as_slice()))
+    Ok(text)
 }
 
 // Whether logs are trimmed as they must be and their certificates are accepted before and after.
-fn logs_are_trimmed(alloc: Global, product: &Product) -> Result<bool, AllocError> {
+fn logs_are_trimmed(alloc: Global, product: &Product) -> bool {
     const LOGS: &[(&str, &str)] = &[
         ("0 6 2 3 4 0\n", "0 6 2 3 4 0\n"),
         ("-2 0 2 0\n0 6 2 3 4 0\n", "0 6 2 3 4 0\n"),
@@ -329,20 +362,17 @@ fn logs_are_trimmed(alloc: Global, product: &Product) -> Result<bool, AllocError
     ];
     for &(whole, kept) in LOGS {
         if !is_trimmed(alloc, whole, kept)
-            || !is_yes_with(alloc, product, whole)?
-            || !is_yes_with(alloc, product, kept)?
+            || !is_yes_with(alloc, product, whole)
+            || !is_yes_with(alloc, product, kept)
         {
-            return Ok(false);
+            return false;
         }
     }
-    Ok(true)
+    true
 }
 
 #[test]
 fn lines_that_nothing_hints_go_and_the_others_are_renumbered(rt: HostRuntime) -> Result<(), Fail> {
-    match pair_of(rt.alloc(), TOGGLE, TOGGLE) {
-        Ok(product) => assert!(rt; logs_are_trimmed(rt.alloc(), &product)?),
-        Err(_) => assert!(rt; false),
-    }
+    assert!(rt; pair_is(rt.alloc(), TOGGLE, TOGGLE, logs_are_trimmed));
     Ok(())
 }

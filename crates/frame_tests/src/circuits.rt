@@ -51,13 +51,42 @@ pub(crate) fn pair_of(alloc: Global, left: &str, right: &str) -> Result<Product,
     }
 }
 
-pub(crate) fn tied_pair_of(alloc: Global, left: &str, right: &str) -> Result<Product, PairFault> {
+fn tied_pair_of(alloc: Global, left: &str, right: &str) -> Result<Product, PairFault> {
     match (
         read_netlist(alloc, left.as_bytes()),
         read_netlist(alloc, right.as_bytes()),
     ) {
         (Ok(left), Ok(right)) => Product::tied(alloc, left, right),
         _ => Err(PairFault::Memory),
+    }
+}
+
+// Whether the pair of two texts is as it is asked for. Tests lend pairs so: none owns one where it may end.
+pub(crate) fn pair_is<F: FnOnce(Global, &Product) -> bool>(
+    alloc: Global,
+    left: &str,
+    right: &str,
+    is_so: F,
+) -> bool
+    requires { F.IsAlwaysCallable is_so }
+{
+    match pair_of(alloc, left, right) {
+        Ok(product) => is_so(alloc, &product),
+        Err(_) => false,
+    }
+}
+
+pub(crate) fn tied_pair_is<F: FnOnce(Global, &Product) -> bool>(
+    alloc: Global,
+    left: &str,
+    right: &str,
+    is_so: F,
+) -> bool
+    requires { F.IsAlwaysCallable is_so }
+{
+    match tied_pair_of(alloc, left, right) {
+        Ok(product) => is_so(alloc, &product),
+        Err(_) => false,
     }
 }
 

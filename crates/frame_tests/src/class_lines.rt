@@ -1,5 +1,5 @@
 //! The lines of classes in certificates.
-use crate::circuits::{TOGGLE, pair_of};
+use crate::circuits::{TOGGLE, pair_is};
 use bit_rows::BitRow;
 use class_partition::Classes;
 use class_text::push_class_lines;
@@ -26,19 +26,16 @@ fn lines_of(alloc: Global, product: &Product) -> Result<Vec<u8>, AllocError> {
     Ok(text)
 }
 
-// Whether the class has this line.
-fn has_line(alloc: Global, product: &Product, line: &[u8]) -> bool {
+// Whether the class of two toggling latches and the constant has its line.
+fn has_line(alloc: Global, product: &Product) -> bool {
     match lines_of(alloc, product) {
-        Ok(text) => text.as_slice() == line,
+        Ok(text) => text.as_slice() == b"class c !l1 r1\n".as_slice(),
         Err(_) => false,
     }
 }
 
 #[test]
 fn a_class_is_a_line(rt: HostRuntime) -> Result<(), Fail> {
-    match pair_of(rt.alloc(), TOGGLE, TOGGLE) {
-        Ok(product) => assert!(rt; has_line(rt.alloc(), &product, b"class c !l1 r1\n")),
-        Err(_) => assert!(rt; false),
-    }
+    assert!(rt; pair_is(rt.alloc(), TOGGLE, TOGGLE, has_line));
     Ok(())
 }

@@ -2,7 +2,7 @@
 ghost use Rattle.std.specs.Prelude.{◌≡◌, ◌<◌, ◌≤◌};
 ghost use Rattle.circ_model.specs.Meaning.{places_of};
 
-use crate::circuits::{DELAYS, LOW, LOW_TWICE, TOGGLE, pair_of};
+use crate::circuits::{DELAYS, LOW, LOW_TWICE, TOGGLE, pair_is, pair_of};
 use circ_model::Lit;
 use induction_base::*;
 use product_machine::Product;
@@ -65,9 +65,6 @@ fn are_bases(alloc: Global, product: &Product) -> bool {
 
 #[test]
 fn toggling_latches_agree_and_leave_the_constant(rt: HostRuntime) -> Result<(), Fail> {
-    match pair_of(rt.alloc(), TOGGLE, TOGGLE) {
-        Ok(product) => assert!(rt; are_bases(rt.alloc(), &product)),
-        Err(_) => assert!(rt; false),
-    }
+    assert!(rt; pair_is(rt.alloc(), TOGGLE, TOGGLE, are_bases));
     Ok(())
 }

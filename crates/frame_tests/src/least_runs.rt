@@ -1,7 +1,7 @@
 //! Least runs: of inputs that are shown late, and of free latches.
 ghost use Rattle.std.specs.Prelude.{◌≤◌};
 
-use crate::circuits::{KEPT, late_pair, pair_of};
+use crate::circuits::{KEPT, late_pair, pair_is};
 use induction_base::*;
 use product_machine::{Path, Product};
 use std::alloc::{AllocError, Global};
@@ -38,25 +38,31 @@ fn is_one_at_end(alloc: Global, product: &Product, frame: u32) -> bool {
     }
 }
 
+// Whether that of an input that is shown from a frame on does.
+fn late_input_is_one_at_end(alloc: Global, frame: u32) -> bool
+    requires { frame ≤ 60 }
+{
+    match late_pair(alloc, frame) {
+        Ok(product) => is_one_at_end(alloc, &product, frame),
+        Err(_) => false,
+    }
+}
+
 #[test]
 fn an_input_that_is_shown_late_is_one_in_that_frame_alone(rt: HostRuntime) -> Result<(), Fail> {
     const FRAMES: &[u32] = &[0, 1, 7, 40];
     for &frame in FRAMES {
-        assert!(rt; frame <= 60);
-        match late_pair(rt.alloc(), frame) {
-            Ok(product) => assert!(rt; is_one_at_end(rt.alloc(), &product, frame)),
-            Err(_) => assert!(rt; false),
-        }
+        assert!(rt; frame <= 60 && late_input_is_one_at_end(rt.alloc(), frame));
     }
     Ok(())
 }
 
-// Whether the least run starts with these bits.
-fn starts_with(alloc: Global, product: &Product, left: bool, right: bool) -> bool {
+// Whether the least run of two free latches starts with the second at 1.
+fn second_starts_at_one(alloc: Global, product: &Product) -> bool {
     match least_of(alloc, product) {
         Ok(Some(least)) => {
             let start = &least.run.start;
-            start.len() == 2 && start.get(0) == left && start.get(1) == right
+            start.len() == 2 && !start.get(0) && start.get(1)
         }
         _ => false,
     }
@@ -64,9 +70,6 @@ fn starts_with(alloc: Global, product: &Product, left: bool, right: bool) -> boo
 
 #[test]
 fn of_two_free_latches_the_second_starts_at_one(rt: HostRuntime) -> Result<(), Fail> {
-    match pair_of(rt.alloc(), KEPT, KEPT) {
-        Ok(product) => assert!(rt; starts_with(rt.alloc(), &product, false, true)),
-        Err(_) => assert!(rt; false),
-    }
+    assert!(rt; pair_is(rt.alloc(), KEPT, KEPT, second_starts_at_one));
     Ok(())
 }

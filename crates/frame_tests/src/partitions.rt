@@ -25,15 +25,22 @@ fn six_places(alloc: Global) -> Result<Classes, AllocError> {
     Classes::one_class(alloc, &row_of(alloc, 6, 0b100110)?)
 }
 
+// Splits by a row. Answers how many classes that adds; 9 where the row doesn't fit.
+fn split_by_bits(alloc: Global, classes: &mut Classes, bits: u32) -> Result<u32, AllocError> {
+    let row = row_of(alloc, 6, bits)?;
+    if row.len() != classes.len() {
+        return Ok(9);
+    }
+    Ok(classes.split_by(&row))
+}
+
 // Splits by a row. Answers how many classes their copy still has, were added and are; 9 where the row doesn't fit.
 fn counts_by_row(alloc: Global, classes: &mut Classes, bits: u32) -> Result<[u32; 3], AllocError> {
     let copy = classes.copy(alloc)?;
-    let row = row_of(alloc, 6, bits)?;
-    if row.len() != classes.len() {
-        return Ok([9; 3]);
-    }
-    let added = classes.split_by(&row);
-    Ok([copy.count(), added, classes.count()])
+    let added = split_by_bits(alloc, classes, bits);
+    let counts = (copy.count(), classes.count());
+    drop(copy);
+    Ok([counts.0, added?, counts.1])
 }
 
 // Whether literals of the classes that the rows leave are paired as they must: by the phases place 1 is the complement of place
@@ -52,22 +59,29 @@ fn are_paired(classes: &Classes) -> bool {
         && !classes.phase(3)
 }
 
-#[test]
-fn rows_split_classes_by_bits_and_phases(rt: HostRuntime) -> Result<(), Fail> {
+// Whether rows split the classes of six places as they must.
+fn split_as_told(alloc: Global, classes: &mut Classes) -> Result<bool, AllocError> {
     // a row's bits, the counts, and the least places and the members then
     const SPLITS: &[(u32, [u32; 3], [u32; 6], [u32; 6])] = &[
         (0b001010, [1, 1, 2], [0, 0, 2, 2, 0, 2], [1, 1, 3, 3, 4, 5]),
         (0b101101, [2, 2, 4], [0, 0, 2, 3, 4, 2], [1, 1, 5, 5, 5, 5]),
         (0b010010, [4, 0, 4], [0, 0, 2, 3, 4, 2], [1, 1, 5, 5, 5, 5]),
     ];
-    let mut classes = six_places(rt.alloc())?;
     for &(bits, counts, least, members) in SPLITS {
-        assert!(rt; counts_by_row(rt.alloc(), &mut classes, bits)? == counts);
-        assert!(rt; table_of(&classes) == [least, members]);
+        if counts_by_row(alloc, classes, bits)? != counts || table_of(classes) != [least, members] {
+            return Ok(false);
+        }
     }
     let needed = Some(Needed { rep: 2, member: 5 });
-    assert!(rt; classes.next_pair(2) == needed && classes.next_pair(6) == None);
-    assert!(rt; are_paired(&classes));
+    Ok(classes.next_pair(2) == needed && classes.next_pair(6) == None && are_paired(classes))
+}
+
+#[test]
+fn rows_split_classes_by_bits_and_phases(rt: HostRuntime) -> Result<(), Fail> {
+    match six_places(rt.alloc()) {
+        Ok(mut classes) => assert!(rt; split_as_told(rt.alloc(), &mut classes) == Ok(true)),
+        Err(_) => assert!(rt; false),
+    }
     Ok(())
 }
 
@@ -100,20 +114,53 @@ fn split_by_words(
     }
 }
 
-// Whether the words split the classes as their rows do in turn, and so.
-fn split_alike(
+// Whether the words split the classes as their rows split a copy in turn, and so.
+fn split_beside(
     alloc: Global,
     classes: &mut Classes,
+    copy: &mut Classes,
     words: &[u64; 6],
     added: u32,
     least: [u32; 6],
 ) -> Result<bool, AllocError> {
-    let mut copy = classes.copy(alloc)?;
     let after = classes.count().saturating_add(added);
-    split_by_rows(alloc, &mut copy, words)?;
+    split_by_rows(alloc, copy, words)?;
     let found = split_by_words(alloc, classes, words)?;
-    let alike = table_of(&copy) == table_of(classes) && copy.count() == classes.count();
-    Ok(alike && found == added && classes.count() == after && table_of(classes)[0] == least)
+    Ok(
+        table_of(copy) == table_of(classes)
+            && copy.count() == classes.count()
+            && found == added
+            && classes.count() == after
+            && table_of(classes)[0] == least,
+    )
+}
+
+// The same after a row split the classes.
+fn split_alike(
+    alloc: Global,
+    classes: &mut Classes,
+    bits: u32,
+    words: &[u64; 6],
+    added: u32,
+    least: [u32; 6],
+) -> Result<bool, AllocError> {
+    split_by_bits(alloc, classes, bits)?;
+    let mut copy = classes.copy(alloc)?;
+    split_beside(alloc, classes, &mut copy, words, added, least)
+}
+
+// The same of six places.
+fn six_split_alike(
+    alloc: Global,
+    bits: u32,
+    words: &[u64; 6],
+    added: u32,
+    least: [u32; 6],
+) -> bool {
+    match six_places(alloc) {
+        Ok(mut classes) => split_alike(alloc, &mut classes, bits, words, added, least) == Ok(true),
+        Err(_) => false,
+    }
 }
 
 #[test]
@@ -130,9 +177,7 @@ fn words_split_as_their_rows_in_turn(rt: HostRuntime) -> Result<(), Fail> {
         (0b001010, &[0, !1, !0, 3, 4, !5], 4, [0, 1, 2, 3, 4, 5]),
     ];
     for &(bits, words, added, least) in SPLITS {
-        let mut classes = six_places(rt.alloc())?;
-        counts_by_row(rt.alloc(), &mut classes, bits)?;
-        assert!(rt; split_alike(rt.alloc(), &mut classes, words, added, least)?);
+        assert!(rt; six_split_alike(rt.alloc(), bits, words, added, least));
     }
     Ok(())
 }

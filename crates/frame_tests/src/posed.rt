@@ -51,12 +51,11 @@ fn folded_from(graph: &mut Graph, fold: Fold, first: u32) -> Result<Lit, AllocEr
 }
 
 // Three products of all leaves, each from another leaf on.
-fn products(graph: &mut Graph) -> Result<[Lit; 3], AllocError> {
-    let mut all = [Lit::of(0, true); 3];
-    for i in 0..3 {
-        all[i] = folded_from(graph, Fold::Product, 13 * i as u32)?;
-    }
-    Ok(all)
+fn products(graph: &mut Graph) -> Result<(Lit, Lit, Lit), AllocError> {
+    let first = folded_from(graph, Fold::Product, 0)?;
+    let second = folded_from(graph, Fold::Product, 13)?;
+    let third = folded_from(graph, Fold::Product, 26)?;
+    Ok((first, second, third))
 }
 
 fn ask(
@@ -98,11 +97,6 @@ fn are_same(graph: &Graph, a: Lit, b: Lit) -> bool {
     a.var() < graph.len() && b.var() < graph.len() && graph.same(a, b)
 }
 
-// Whether the second and the third of three products are merged, and the first with them, or not.
-fn are_merged(graph: &Graph, all: [Lit; 3], first: bool) -> bool {
-    are_same(graph, all[1], all[2]) && are_same(graph, all[0], all[1]) == first
-}
-
 // Whether another asker puts a question aside, and its answer is taken in at once.
 fn is_merged(alloc: Global, graph: &mut Graph, a: Lit, b: Lit) -> bool {
     match Asker::posing(alloc, 2, 0) {
@@ -113,33 +107,22 @@ fn is_merged(alloc: Global, graph: &mut Graph, a: Lit, b: Lit) -> bool {
     }
 }
 
-// Whether the question about two of three products is put aside, and its answer taken in after others were merged, or not.
-fn is_settled(
+// Whether the question about the second and the third of three products is put aside, and its answer merges these after the first two
+// were merged, or not; the first is one with them then, or not.
+fn comes_to_one(
     alloc: Global,
     graph: &mut Graph,
     asker: &mut Asker,
-    all: [Lit; 3],
     merges: bool,
-) -> bool {
-    is_put_aside(alloc, graph, asker, all[1], all[2])
-        && (!merges || is_merged(alloc, graph, all[0], all[1]))
-        && is_taken(alloc, graph, asker)
-}
-
-fn comes_to_one(alloc: Global, merges: bool) -> Result<bool, AllocError> {
-    let mut graph = graph_of_leaves(alloc)?;
-    let all = products(&mut graph)?;
-    let mut asker = Asker::posing(alloc, 2, 0)?;
-    let settled = is_settled(alloc, &mut graph, &mut asker, all, merges);
-    Ok(settled && are_merged(&graph, all, merges))
-}
-
-#[test]
-fn the_answer_to_a_question_that_was_put_aside_merges(rt: HostRuntime) -> Result<(), Fail> {
-    for merges in [false, true] {
-        assert!(rt; comes_to_one(rt.alloc(), merges)?);
-    }
-    Ok(())
+) -> Result<bool, AllocError> {
+    let (a, b, c) = products(graph)?;
+    Ok(
+        is_put_aside(alloc, graph, asker, b, c)
+            && (!merges || is_merged(alloc, graph, a, b))
+            && is_taken(alloc, graph, asker)
+            && are_same(graph, b, c)
+            && are_same(graph, a, b) == merges,
+    )
 }
 
 // Whether what is put aside is solved, and its answer taken in by a graph that doesn't have its nodes.
@@ -158,31 +141,24 @@ fn is_asked_again(alloc: Global, graph: &mut Graph, asker: &mut Asker, a: Lit, b
         && is_equal(alloc, graph, asker, a, b)
 }
 
-fn comes_to_nothing(alloc: Global) -> Result<bool, AllocError> {
-    let mut graph = graph_of_leaves(alloc)?;
-    let all = products(&mut graph)?;
-    let mut asker = Asker::posing(alloc, 2, 0)?;
-    Ok(is_asked_again(alloc, &mut graph, &mut asker, all[0], all[1]))
-}
-
-#[test]
-fn an_answer_that_does_not_stand_is_not_taken(rt: HostRuntime) -> Result<(), Fail> {
-    assert!(rt; comes_to_nothing(rt.alloc())?);
-    Ok(())
+// Whether the question about two products is put aside, and its answer isn't taken in by another graph.
+fn comes_to_nothing(
+    alloc: Global,
+    graph: &mut Graph,
+    asker: &mut Asker,
+) -> Result<bool, AllocError> {
+    let (a, b, _) = products(graph)?;
+    Ok(is_asked_again(alloc, graph, asker, a, b))
 }
 
 // Whether an asker that puts hard questions aside answers a large one at once where none was hard yet.
-fn is_answered_while_easy(alloc: Global) -> Result<bool, AllocError> {
-    let mut graph = graph_of_leaves(alloc)?;
-    let all = products(&mut graph)?;
-    let mut asker = Asker::posing(alloc, 2, 1_000_000)?;
-    Ok(is_equal(alloc, &mut graph, &mut asker, all[0], all[1]))
-}
-
-#[test]
-fn a_large_question_is_answered_while_none_was_hard(rt: HostRuntime) -> Result<(), Fail> {
-    assert!(rt; is_answered_while_easy(rt.alloc())?);
-    Ok(())
+fn is_answered_while_easy(
+    alloc: Global,
+    graph: &mut Graph,
+    asker: &mut Asker,
+) -> Result<bool, AllocError> {
+    let (a, b, _) = products(graph)?;
+    Ok(is_equal(alloc, graph, asker, a, b))
 }
 
 // So many leaves have a parity whose gates no window holds, and two orders of it share none.
@@ -265,53 +241,42 @@ fn parities_become_one(
     Ok(one && becomes_one(alloc, graph, asker, first, third))
 }
 
-// The same, in a graph of leaves alone.
-fn leaves_have_one_parity(alloc: Global) -> Result<bool, AllocError> {
-    let mut graph = graph_of_leaves(alloc)?;
-    let mut asker = Asker::posing(alloc, 2, 0)?;
-    parities_become_one(alloc, &mut graph, &mut asker)
-}
-
-#[test]
-fn an_answer_that_rests_on_equal_nodes_merges(rt: HostRuntime) -> Result<(), Fail> {
-    assert!(rt; leaves_have_one_parity(rt.alloc())?);
-    Ok(())
-}
-
 // Whether what is put aside rests on two literals.
 fn rests_on(graph: &Graph, asker: &Asker, a: Lit, b: Lit) -> bool {
     a.var() < graph.len() && b.var() < graph.len() && graph.rests_on(asker, a, b)
 }
 
-// Whether the question about two products rests on what is near its cone, and on nothing far, nor on two literals that are one.
+// Whether the question about two products rests on them once it is put aside, and on one of them with a literal near their cone, but
+// on nothing far, nor on two literals that are one.
+fn rests_near(
+    alloc: Global,
+    graph: &mut Graph,
+    asker: &mut Asker,
+    asked: (Lit, Lit),
+    near: Lit,
+    far: (Lit, Lit),
+) -> bool {
+    let (a, b) = asked;
+    !rests_on(graph, asker, a, b)
+        && is_put_aside(alloc, graph, asker, a, b)
+        && rests_on(graph, asker, a, b)
+        && rests_on(graph, asker, a, near)
+        && !rests_on(graph, asker, near, far.0)
+        && !rests_on(graph, asker, near, far.1)
+        && !rests_on(graph, asker, a, a)
+}
+
+// Whether it is so of products of all leaves, with one of two leaves near them, and a new leaf and another product of all far.
 fn rests_on_what_is_near(
     alloc: Global,
     graph: &mut Graph,
     asker: &mut Asker,
 ) -> Result<bool, AllocError> {
-    let all = products(graph)?;
+    let (other, a, b) = products(graph)?;
     let near = product(graph, Lit::of(3, false), Lit::of(7, true))?;
     let new = graph.leaf()?;
     let beside = product(graph, near, new)?;
-    let before = rests_on(graph, asker, all[1], all[2]);
-    let aside = is_put_aside(alloc, graph, asker, all[1], all[2]);
-    let own = rests_on(graph, asker, all[1], all[2]) && rests_on(graph, asker, all[1], near);
-    let far = rests_on(graph, asker, near, beside) || rests_on(graph, asker, near, all[0]);
-    let one = rests_on(graph, asker, all[1], all[1]);
-    Ok(!before && aside && own && !far && !one)
-}
-
-// The same, in a graph of leaves alone.
-fn products_rest_on_what_is_near(alloc: Global) -> Result<bool, AllocError> {
-    let mut graph = graph_of_leaves(alloc)?;
-    let mut asker = Asker::posing(alloc, 2, 0)?;
-    rests_on_what_is_near(alloc, &mut graph, &mut asker)
-}
-
-#[test]
-fn a_question_rests_on_what_is_near(rt: HostRuntime) -> Result<(), Fail> {
-    assert!(rt; products_rest_on_what_is_near(rt.alloc())?);
-    Ok(())
+    Ok(rests_near(alloc, graph, asker, (a, b), near, (beside, other)))
 }
 
 // The sum modulo 2 of two literals that a graph has, by three products.
@@ -323,19 +288,102 @@ fn sum(graph: &mut Graph, a: Lit, b: Lit) -> Result<Lit, AllocError> {
 
 // Whether two orders of a sum are found equal at once by an asker that puts large questions aside, but not the sum and its complement, nor
 // the sum and that of all leaves but one.
-fn sums_are_one(alloc: Global) -> Result<bool, AllocError> {
-    let mut graph = graph_of_leaves(alloc)?;
-    let first = folded_from(&mut graph, Fold::Sum, 0)?;
-    let second = folded_from(&mut graph, Fold::Sum, 13)?;
-    let less = sum(&mut graph, second, Lit::of(5, false))?;
-    let mut asker = Asker::posing(alloc, 2, 0)?;
-    let one = is_equal(alloc, &mut graph, &mut asker, first, second);
-    let complement = is_equal(alloc, &mut graph, &mut asker, first, second.not());
-    Ok(one && !complement && !is_equal(alloc, &mut graph, &mut asker, first, less))
+fn sums_are_one(alloc: Global, graph: &mut Graph, asker: &mut Asker) -> Result<bool, AllocError> {
+    let first = folded_from(graph, Fold::Sum, 0)?;
+    let second = folded_from(graph, Fold::Sum, 13)?;
+    let less = sum(graph, second, Lit::of(5, false))?;
+    Ok(
+        is_equal(alloc, graph, asker, first, second)
+            && !is_equal(alloc, graph, asker, first, second.not())
+            && !is_equal(alloc, graph, asker, first, less),
+    )
+}
+
+// What is asked in a graph of leaves alone.
+#[derive(Clone, Copy)]
+enum Case {
+    // The answer to a question that was put aside merges, alone or after others were merged.
+    Merges,
+    MergesAfterOthers,
+    // One that doesn't stand isn't taken.
+    Refused,
+    Easy,
+    Parities,
+    Near,
+    Sums,
+}
+
+// Whether a case comes out.
+fn comes_out(
+    alloc: Global,
+    graph: &mut Graph,
+    asker: &mut Asker,
+    case: Case,
+) -> Result<bool, AllocError> {
+    match case {
+        Case::Merges => comes_to_one(alloc, graph, asker, false),
+        Case::MergesAfterOthers => comes_to_one(alloc, graph, asker, true),
+        Case::Refused => comes_to_nothing(alloc, graph, asker),
+        Case::Easy => is_answered_while_easy(alloc, graph, asker),
+        Case::Parities => parities_become_one(alloc, graph, asker),
+        Case::Near => rests_on_what_is_near(alloc, graph, asker),
+        Case::Sums => sums_are_one(alloc, graph, asker),
+    }
+}
+
+// The same with an asker that puts hard questions aside, in a graph that is lent, so that a function owns one
+// of the two alone.
+fn comes_out_in(alloc: Global, graph: &mut Graph, case: Case) -> bool {
+    let hard: u64 = match case {
+        Case::Easy => 1_000_000,
+        _ => 0,
+    };
+    match Asker::posing(alloc, 2, hard) {
+        Ok(mut asker) => comes_out(alloc, graph, &mut asker, case) == Ok(true),
+        Err(_) => false,
+    }
+}
+
+fn holds(alloc: Global, case: Case) -> bool {
+    match graph_of_leaves(alloc) {
+        Ok(mut graph) => comes_out_in(alloc, &mut graph, case),
+        Err(_) => false,
+    }
+}
+
+#[test]
+fn the_answer_to_a_question_that_was_put_aside_merges(rt: HostRuntime) -> Result<(), Fail> {
+    assert!(rt; holds(rt.alloc(), Case::Merges));
+    assert!(rt; holds(rt.alloc(), Case::MergesAfterOthers));
+    Ok(())
+}
+
+#[test]
+fn an_answer_that_does_not_stand_is_not_taken(rt: HostRuntime) -> Result<(), Fail> {
+    assert!(rt; holds(rt.alloc(), Case::Refused));
+    Ok(())
+}
+
+#[test]
+fn a_large_question_is_answered_while_none_was_hard(rt: HostRuntime) -> Result<(), Fail> {
+    assert!(rt; holds(rt.alloc(), Case::Easy));
+    Ok(())
+}
+
+#[test]
+fn an_answer_that_rests_on_equal_nodes_merges(rt: HostRuntime) -> Result<(), Fail> {
+    assert!(rt; holds(rt.alloc(), Case::Parities));
+    Ok(())
+}
+
+#[test]
+fn a_question_rests_on_what_is_near(rt: HostRuntime) -> Result<(), Fail> {
+    assert!(rt; holds(rt.alloc(), Case::Near));
+    Ok(())
 }
 
 #[test]
 fn two_orders_of_a_sum_are_found_equal_at_once(rt: HostRuntime) -> Result<(), Fail> {
-    assert!(rt; sums_are_one(rt.alloc())?);
+    assert!(rt; holds(rt.alloc(), Case::Sums));
     Ok(())
 }

@@ -1,9 +1,9 @@
 //! Products of two netlists, and the frames of their paths.
-ghost use Rattle.std.specs.Prelude.{◌<◌, length};
+ghost use Rattle.std.specs.Prelude.{◌≡◌, ◌<◌, length};
 ghost use Rattle.circ_model.specs.Meaning.{IsPath};
 ghost use Rattle.product_machine.specs.Walk.{FitsPair};
 
-use crate::circuits::{LATCH_OF_PRODUCT, PRODUCT_OF_LATCHES, pair_of};
+use crate::circuits::{LATCH_OF_PRODUCT, PRODUCT_OF_LATCHES, pair_is};
 use crate::rows::{has_bits, row_of};
 use bit_rows::{BitRow, Rows};
 use circ_model::{Lit, Signal};
@@ -34,24 +34,36 @@ fn is_frame(product: &Product, path: &Path, t: u64, scratch: &mut Scratch, bits:
     has_bits(scratch.values(), bits)
 }
 
-// Whether these inputs give these frames, and a run.
-fn have_frames(
-    alloc: Global,
-    product: &Product,
-    inputs: [u32; 3],
-    frames: [u32; 3],
-) -> Result<bool, AllocError> {
-    let path = path_of(alloc, product, inputs)?;
-    let mut scratch = Scratch::for_product(alloc, product)?;
-    if !product.is_path(&path) || path.inputs.len() != 3 {
-        return Ok(false);
+// Whether a path of three frames has these.
+fn are_frames(product: &Product, path: &Path, scratch: &mut Scratch, frames: [u32; 3]) -> bool
+    requires path { IsPath product.now path.now }
+    requires frames { length path.now.inputs ≡ 3 }
+    requires scratch { FitsPair product.now scratch.old }
+{
+    is_frame(product, path, 0, scratch, frames[0])
+        && is_frame(product, path, 1, scratch, frames[1])
+        && is_frame(product, path, 2, scratch, frames[2])
+}
+
+// Whether a path is a run of three frames, and has these.
+fn has_frames(alloc: Global, product: &Product, path: &Path, frames: [u32; 3]) -> bool {
+    if !product.is_path(path) || path.inputs.len() != 3 || !product.is_run(path) {
+        return false;
     }
-    Ok(
-        is_frame(product, &path, 0, &mut scratch, frames[0])
-            && is_frame(product, &path, 1, &mut scratch, frames[1])
-            && is_frame(product, &path, 2, &mut scratch, frames[2])
-            && product.is_run(&path),
-    )
+    match Scratch::for_product(alloc, product) {
+        Ok(mut scratch) => are_frames(product, path, &mut scratch, frames),
+        Err(_) => false,
+    }
+}
+
+// Whether these inputs give these frames, and a run.
+fn inputs_give_frames(alloc: Global, product: &Product) -> bool {
+    const INPUTS: [u32; 3] = [3, 1, 0];
+    const FRAMES: [u32; 3] = [0b10000110, 0b01111010, 0b00001000];
+    match path_of(alloc, product, INPUTS) {
+        Ok(path) => has_frames(alloc, product, &path, FRAMES),
+        Err(_) => false,
+    }
 }
 
 // Whether each place is found by its signal, and a signal that isn't there isn't found.
@@ -75,16 +87,20 @@ fn is_laid_out(product: &Product) -> bool {
         && product.same(product)
 }
 
+// Whether all of this holds.
+fn go_together(alloc: Global, product: &Product) -> bool {
+    inputs_give_frames(alloc, product) && signals_are_found(product) && is_laid_out(product)
+}
+
 #[test]
 fn a_product_of_latches_and_a_latch_of_a_product_go_together(rt: HostRuntime) -> Result<(), Fail> {
-    const INPUTS: [u32; 3] = [3, 1, 0];
-    const FRAMES: [u32; 3] = [0b10000110, 0b01111010, 0b00001000];
-    match pair_of(rt.alloc(), PRODUCT_OF_LATCHES, LATCH_OF_PRODUCT) {
-        Ok(product) => {
-            assert!(rt; have_frames(rt.alloc(), &product, INPUTS, FRAMES)?);
-            assert!(rt; signals_are_found(&product) && is_laid_out(&product));
-        }
-        Err(_) => assert!(rt; false),
-    }
+    assert!(rt;
+        pair_is(
+            rt.alloc(),
+            PRODUCT_OF_LATCHES,
+            LATCH_OF_PRODUCT,
+            go_together
+        )
+    );
     Ok(())
 }

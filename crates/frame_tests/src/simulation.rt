@@ -2,7 +2,7 @@
 ghost use Rattle.std.specs.Prelude.{◌≡◌, ◌<◌, Some, length};
 ghost use Rattle.sim_words.specs.Simulation.{HasFrame, HasNext, next_frame};
 
-use crate::circuits::{TOGGLE_FROM_EITHER, TOGGLE_FROM_ONE, pair_of};
+use crate::circuits::{TOGGLE_FROM_EITHER, TOGGLE_FROM_ONE, pair_is};
 use crate::rows::has_bits;
 use bit_rows::BitRow;
 use product_machine::Product;
@@ -51,12 +51,20 @@ fn toggles_from(alloc: Global, product: &Product, start: u64) -> Result<bool, Al
     Ok(first && second && runs && third)
 }
 
+fn toggle_where_lanes_say(alloc: Global, product: &Product) -> bool {
+    toggles_from(alloc, product, 0x00ff_0000_1234_5678) == Ok(true)
+}
+
 #[test]
 fn toggling_latches_start_where_their_lanes_say(rt: HostRuntime) -> Result<(), Fail> {
-    match pair_of(rt.alloc(), TOGGLE_FROM_EITHER, TOGGLE_FROM_ONE) {
-        Ok(product) => assert!(rt; toggles_from(rt.alloc(), &product, 0x00ff_0000_1234_5678)?),
-        Err(_) => assert!(rt; false),
-    }
+    assert!(rt;
+        pair_is(
+            rt.alloc(),
+            TOGGLE_FROM_EITHER,
+            TOGGLE_FROM_ONE,
+            toggle_where_lanes_say
+        )
+    );
     Ok(())
 }
 
@@ -81,24 +89,37 @@ fn wide_words(
     Ok(words)
 }
 
-// Whether each of the eight is a simulation of 64 runs.
-fn wide_toggles(alloc: Global, product: &Product, start: &[u64; 8]) -> Result<bool, AllocError> {
+// Whether word j of each place is as in a simulation of 64 runs.
+fn is_simulated(alloc: Global, product: &Product, start: &[u64; 8], j: u32) -> bool
+    requires { j < 8 }
+{
+    match wide_words(alloc, product, start, j) {
+        Ok(words) => words.as_slice() == [0, !start[j as usize], 0].as_slice(),
+        Err(_) => false,
+    }
+}
+
+// Whether each of the eight is.
+fn are_simulated(alloc: Global, product: &Product) -> bool {
+    const START: &[u64; 8] = &[0, !0, 1, 2, 0x00ff_0000_1234_5678, 5, 1 << 63, 7];
     for j in 0..8u32 {
-        let words = wide_words(alloc, product, start, j)?;
-        if words.as_slice() != [0, !start[j as usize], 0].as_slice() {
-            return Ok(false);
+        if !is_simulated(alloc, product, START, j) {
+            return false;
         }
     }
-    Ok(true)
+    true
 }
 
 #[test]
 fn each_of_eight_words_has_runs_of_its_own(rt: HostRuntime) -> Result<(), Fail> {
-    const START: &[u64; 8] = &[0, !0, 1, 2, 0x00ff_0000_1234_5678, 5, 1 << 63, 7];
-    match pair_of(rt.alloc(), TOGGLE_FROM_EITHER, TOGGLE_FROM_ONE) {
-        Ok(product) => assert!(rt; wide_toggles(rt.alloc(), &product, START)?),
-        Err(_) => assert!(rt; false),
-    }
+    assert!(rt;
+        pair_is(
+            rt.alloc(),
+            TOGGLE_FROM_EITHER,
+            TOGGLE_FROM_ONE,
+            are_simulated
+        )
+    );
     Ok(())
 }
 

@@ -5,7 +5,7 @@ ghost use Rattle.circ_model.specs.Correspondence.{IsLiteral};
 ghost use Rattle.circ_model.specs.Meaning.{places_of};
 ghost use Rattle.cnf_store.specs.Clauses.{IsLiteral as IsVariable, AreLiterals, literal_true, clause_true, satisfies};
 
-use crate::circuits::{TOGGLE, pair_of};
+use crate::circuits::{TOGGLE, pair_is};
 use crate::rows::{has_bits, row_of};
 use bit_rows::BitRow;
 use circ_model::Lit;
@@ -60,8 +60,9 @@ fn size_of(unrolled: &Unrolled<'_>) -> (u64, u32) {
 
 // Two classes of three places: the constant, and both latches.
 fn two_classes(alloc: Global) -> Result<Classes, AllocError> {
-    let mut classes = Classes::one_class(alloc, &row_of(alloc, 3, 0)?)?;
+    let phases = row_of(alloc, 3, 0)?;
     let row = row_of(alloc, 3, 0b110)?;
+    let mut classes = Classes::one_class(alloc, &phases)?;
     if classes.len() == row.len() {
         classes.split_by(&row);
     }
@@ -71,27 +72,32 @@ fn two_classes(alloc: Global) -> Result<Classes, AllocError> {
 // The numbers of clauses and variables with a question, and after it is dropped.
 fn sizes_of(
     alloc: Global,
-    mut frames: Unrolled<'_>,
+    frames: &mut Unrolled<'_>,
     question: (Lit, Lit),
     at: u32,
 ) -> Result<[(u64, u32); 2], AllocError>
-    requires none { frames.asked ≡ None }
-    requires left { IsLiteral frames.pair question.0 }
-    requires right { IsLiteral frames.pair question.1 }
-    requires frame { at < frames.frames }
+    requires none { frames.old.asked ≡ None }
+    requires left { IsLiteral frames.old.pair question.0 }
+    requires right { IsLiteral frames.old.pair question.1 }
+    requires frame { at < frames.old.frames }
 {
     frames.ask(alloc, question.0, question.1, at, at)?;
-    let asked = size_of(&frames);
+    let asked = size_of(frames);
     frames.drop_question();
-    Ok([asked, size_of(&frames)])
+    Ok([asked, size_of(frames)])
 }
 
 // One frame from reset, with the question whether the latches differ in it.
 fn reset_sizes(alloc: Global, product: &Product) -> Result<[(u64, u32); 2], AllocError>
     requires { places_of product.now ≡ 3 }
 {
-    let frames = Unrolled::reset_frames(alloc, product, 1)?;
-    sizes_of(alloc, frames, (Lit::of(1, false), Lit::of(2, false)), 0)
+    let mut frames = Unrolled::reset_frames(alloc, product, 1)?;
+    sizes_of(
+        alloc,
+        &mut frames,
+        (Lit::of(1, false), Lit::of(2, false)),
+        0,
+    )
 }
 
 // One frame in which the classes hold and the next, with the question whether the latches differ in that.
@@ -103,16 +109,17 @@ fn step_sizes(
     requires places { places_of product.now ≡ 3 }
     requires classes { length classes.now.least ≡ 3 }
 {
-    let frames = Unrolled::step_frames(alloc, product, 1, classes)?;
-    sizes_of(alloc, frames, (Lit::of(1, false), Lit::of(2, false)), 1)
+    let mut frames = Unrolled::step_frames(alloc, product, 1, classes)?;
+    sizes_of(
+        alloc,
+        &mut frames,
+        (Lit::of(1, false), Lit::of(2, false)),
+        1,
+    )
 }
 
-// The path of a row that satisfies two frames from reset, with the question whether the left latch is ever true.
-fn path_by(alloc: Global, product: &Product, row: &BitRow) -> Result<Option<Path>, AllocError>
-    requires { places_of product.now ≡ 3 }
-{
-    let mut frames = Unrolled::reset_frames(alloc, product, 2)?;
-    frames.ask(alloc, Lit::of(0, false), Lit::of(1, false), 0, 1)?;
+// The path of a row that satisfies thirteen clauses of frames, if it does.
+fn path_by(alloc: Global, frames: &Unrolled<'_>, row: &BitRow) -> Result<Option<Path>, AllocError> {
     let cnf = frames.cnf();
     if cnf.len() == 13 && row.len() == cnf.vars() && holds(cnf, row) {
         return Ok(Some(frames.path_of(alloc, row)?));
@@ -138,18 +145,60 @@ fn is_quiet(path: &Path) -> bool {
     is_low(&path.start, 2) && is_low(path.inputs.row(0), 0) && is_low(path.inputs.row(1), 0)
 }
 
-// The worked rows of two toggling latches: whether all of them come out.
-fn worked(alloc: Global, product: &Product) -> Result<bool, AllocError> {
-    let classes = two_classes(alloc)?;
-    if product.len() != 3 || classes.len() != 3 {
-        return Ok(false);
+// Whether a row satisfies two frames from reset, with the question whether the left latch is ever true, and its path is that.
+fn has_quiet_path(alloc: Global, frames: &mut Unrolled<'_>, row: &BitRow) -> bool
+    requires none { frames.old.asked ≡ None }
+    requires places { places_of frames.old.pair ≡ 3 }
+    requires frames { frames.old.frames ≡ 2 }
+{
+    if frames
+        .ask(alloc, Lit::of(0, false), Lit::of(1, false), 0, 1)
+        .is_err()
+    {
+        return false;
     }
-    let sizes = reset_sizes(alloc, product)? == [(6, 4), (3, 3)]
-        && step_sizes(alloc, product, &classes)? == [(11, 7), (8, 6)];
-    match path_by(alloc, product, &row_of(alloc, 8, 0b10110000)?)? {
-        Some(path) => Ok(sizes && is_quiet(&path)),
-        None => Ok(false),
+    match path_by(alloc, frames, row) {
+        Ok(Some(path)) => is_quiet(&path),
+        _ => false,
     }
+}
+
+// The worked rows of two toggling latches: whether that of the path comes out.
+fn row_is_worked(alloc: Global, product: &Product, row: &BitRow) -> bool
+    requires { places_of product.now ≡ 3 }
+{
+    match Unrolled::reset_frames(alloc, product, 2) {
+        Ok(mut frames) => has_quiet_path(alloc, &mut frames, row),
+        Err(_) => false,
+    }
+}
+
+fn path_is_worked(alloc: Global, product: &Product) -> bool
+    requires { places_of product.now ≡ 3 }
+{
+    match row_of(alloc, 8, 0b10110000) {
+        Ok(row) => row_is_worked(alloc, product, &row),
+        Err(_) => false,
+    }
+}
+
+// Whether the numbers of clauses and variables do.
+fn step_is_worked(alloc: Global, product: &Product) -> bool
+    requires { places_of product.now ≡ 3 }
+{
+    match two_classes(alloc) {
+        Ok(classes) => {
+            classes.len() == 3 && step_sizes(alloc, product, &classes) == Ok([(11, 7), (8, 6)])
+        }
+        Err(_) => false,
+    }
+}
+
+fn is_worked(alloc: Global, product: &Product) -> bool {
+    product.len() == 3
+        && reset_sizes(alloc, product) == Ok([(6, 4), (3, 3)])
+        && step_is_worked(alloc, product)
+        && path_is_worked(alloc, product)
 }
 
 // The literals of the constant and the latches, as numbers.
@@ -174,6 +223,14 @@ fn is_as_told(found: &Separation, seen: Option<(u32, u32)>) -> bool {
     }
 }
 
+// Whether there is an answer, and it is that.
+fn is_told(found: Result<Separation, AllocError>, seen: Option<(u32, u32)>) -> bool {
+    match found {
+        Ok(found) => is_as_told(&found, seen),
+        Err(_) => false,
+    }
+}
+
 // Whether a question over so many frames comes to what its row says, in a workspace and without one.
 fn comes_out(
     alloc: Global,
@@ -181,22 +238,41 @@ fn comes_out(
     frames: &Prepared<'_>,
     count: u32,
     row: Row,
-) -> Result<bool, AllocError>
+) -> bool
     requires places { places_of frames.now.pair ≡ 3 }
     requires frames { frames.now.frames ≡ count }
 {
     let (a, b, first, last, seen) = row;
     let (a, b) = (Lit::from_number(a), Lit::from_number(b));
-    if a.var() >= 3 || b.var() >= 3 || first > last || last >= count {
-        return Ok(false);
+    a.var() < 3
+        && b.var() < 3
+        && first <= last
+        && last < count
+        && is_told(frames.find_in(alloc, work, a, b, first, last), seen)
+        && is_told(frames.find(alloc, a, b, first, last), seen)
+}
+
+// Whether all of some questions do.
+fn come_out(
+    alloc: Global,
+    work: &mut Workspace,
+    frames: &Prepared<'_>,
+    count: u32,
+    rows: &[Row],
+) -> bool
+    requires places { places_of frames.now.pair ≡ 3 }
+    requires frames { frames.now.frames ≡ count }
+{
+    for &row in rows {
+        if !comes_out(alloc, work, frames, count, row) {
+            return false;
+        }
     }
-    let kept = frames.find_in(alloc, work, a, b, first, last)?;
-    let alone = frames.find(alloc, a, b, first, last)?;
-    Ok(is_as_told(&kept, seen) && is_as_told(&alone, seen))
+    true
 }
 
 // Whether three frames from reset answer as they must: both latches are low, then high, then low.
-fn reset_answers(alloc: Global, work: &mut Workspace, product: &Product) -> Result<bool, AllocError>
+fn reset_answers(alloc: Global, work: &mut Workspace, product: &Product) -> bool
     requires { places_of product.now ≡ 3 }
 {
     const QUESTIONS: &[Row] = &[
@@ -207,72 +283,65 @@ fn reset_answers(alloc: Global, work: &mut Workspace, product: &Product) -> Resu
         (LOW, RIGHT, 2, 2, None),
         (LOW, NOT_RIGHT, 1, 2, Some((2, 0b000))),
     ];
-    let frames = Prepared::reset_frames(alloc, product, 3)?;
-    for &row in QUESTIONS {
-        if !comes_out(alloc, work, &frames, 3, row)? {
-            return Ok(false);
-        }
+    match Prepared::reset_frames(alloc, product, 3) {
+        Ok(frames) => come_out(alloc, work, &frames, 3, QUESTIONS),
+        Err(_) => false,
     }
-    Ok(true)
 }
 
 // Whether a frame from any state in which the latches are equal, and the next, answer as they must.
-fn step_answers(alloc: Global, work: &mut Workspace, product: &Product) -> Result<bool, AllocError>
-    requires { places_of product.now ≡ 3 }
+fn step_answers_by(
+    alloc: Global,
+    work: &mut Workspace,
+    product: &Product,
+    classes: &Classes,
+) -> bool
+    requires places { places_of product.now ≡ 3 }
+    requires classes { length classes.now.least ≡ 3 }
 {
     const QUESTIONS: &[Row] = &[
         (LEFT, RIGHT, 0, 1, None),
         (LOW, LEFT, 0, 0, Some((0, 0b110))),
         (LOW, RIGHT, 1, 1, Some((1, 0b110))),
     ];
-    let classes = two_classes(alloc)?;
-    if classes.len() != 3 {
-        return Ok(false);
+    match Prepared::step_frames(alloc, product, 1, classes) {
+        Ok(frames) => come_out(alloc, work, &frames, 2, QUESTIONS),
+        Err(_) => false,
     }
-    let frames = Prepared::step_frames(alloc, product, 1, &classes)?;
-    for &row in QUESTIONS {
-        if !comes_out(alloc, work, &frames, 2, row)? {
-            return Ok(false);
-        }
+}
+
+fn step_answers(alloc: Global, work: &mut Workspace, product: &Product) -> bool
+    requires { places_of product.now ≡ 3 }
+{
+    match two_classes(alloc) {
+        Ok(classes) => classes.len() == 3 && step_answers_by(alloc, work, product, &classes),
+        Err(_) => false,
     }
-    Ok(true)
 }
 
 // Whether all of them answer so in one workspace, those from reset again at the end.
-fn answer_in(alloc: Global, work: &mut Workspace, product: &Product) -> Result<bool, AllocError>
+fn answer_in(alloc: Global, work: &mut Workspace, product: &Product) -> bool
     requires { places_of product.now ≡ 3 }
 {
-    Ok(
-        reset_answers(alloc, work, product)?
-            && step_answers(alloc, work, product)?
-            && reset_answers(alloc, work, product)?,
-    )
+    reset_answers(alloc, work, product)
+        && step_answers(alloc, work, product)
+        && reset_answers(alloc, work, product)
 }
 
 // Whether they do in a new workspace.
 fn are_answered(alloc: Global, product: &Product) -> bool {
-    if product.len() != 3 {
-        return false;
-    }
     let mut work = Workspace::new();
-    answer_in(alloc, &mut work, product) == Ok(true)
+    product.len() == 3 && answer_in(alloc, &mut work, product)
 }
 
 #[test]
 fn questions_over_frames_of_two_toggling_latches(rt: HostRuntime) -> Result<(), Fail> {
-    match pair_of(rt.alloc(), TOGGLE, TOGGLE) {
-        Ok(product) => assert!(rt; are_answered(rt.alloc(), &product)),
-        Err(_) => assert!(rt; false),
-    }
+    assert!(rt; pair_is(rt.alloc(), TOGGLE, TOGGLE, are_answered));
     Ok(())
 }
 
 #[test]
 fn two_toggling_latches_as_clauses(rt: HostRuntime) -> Result<(), Fail> {
-    let alloc = rt.alloc();
-    match pair_of(alloc, TOGGLE, TOGGLE) {
-        Ok(product) => assert!(rt; worked(alloc, &product)?),
-        Err(_) => assert!(rt; false),
-    }
+    assert!(rt; pair_is(rt.alloc(), TOGGLE, TOGGLE, is_worked));
     Ok(())
 }

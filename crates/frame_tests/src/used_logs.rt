@@ -1,10 +1,10 @@
 //! The pairs on which the logs of needed pairs rest: of a latch that stays at 0 and one that takes the input, in one class with the
 //! constant and the input.
-use crate::circuits::pair_of;
+use crate::circuits::pair_is;
 use crate::rows::row_of;
-use class_partition::{Classes, Needed};
+use class_partition::Classes;
 use product_machine::Product;
-use sat_log::{LogError, read_log};
+use sat_log::{Log, read_log};
 use std::alloc::{AllocError, Global};
 use std::test::Fail;
 use used_pairs::{PairList, log_pairs};
@@ -13,94 +13,96 @@ const STAYS_LOW: &str = "aag 2 1 1 0 0\n2\n4 0\n";
 
 const TAKES_THE_INPUT: &str = "aag 2 1 1 0 0\n2\n4 2\n";
 
-// What the first needed pair at or past a place rests on, by two logs over one frame.
-fn pairs_by(
-    alloc: Global,
-    product: &Product,
-    from: u32,
-    base: &str,
-    step: &str,
-) -> Result<Option<PairList>, LogError> {
-    let base = read_log(alloc, base.as_bytes())?;
-    let step = read_log(alloc, step.as_bytes())?;
-    let Ok(phases) = row_of(alloc, 4, 0) else {
-        return Err(LogError::Memory);
-    };
-    let Ok(classes) = Classes::one_class(alloc, &phases) else {
-        return Err(LogError::Memory);
-    };
-    let Some(pair) = classes.next_pair(from) else {
-        return Ok(None);
-    };
-    if classes.len() != product.len() {
-        return Ok(None);
-    }
-    match log_pairs(alloc, product, 1, &classes, pair, &base, &step) {
-        Ok(found) => Ok(found),
-        Err(_) => Err(LogError::Memory),
-    }
-}
+// A place, logs of the two questions of the first needed pair at or past it, and the pairs that they use, or none where one of the logs
+// isn't accepted.
+type Row = (u32, &'static str, &'static str, Option<&'static [[u32; 2]]>);
 
-// Whether the logs are accepted, and rest on these pairs.
-fn rests_on(
-    alloc: Global,
-    product: &Product,
-    from: u32,
-    base: &str,
-    step: &str,
-    pairs: &[Needed],
-) -> bool {
-    let Ok(Some(found)) = pairs_by(alloc, product, from, base, step) else {
+// Whether a list has these pairs.
+fn are_pairs(found: &PairList, pairs: Option<&[[u32; 2]]>) -> bool {
+    let Some(pairs) = pairs else {
         return false;
     };
     if found.len() != pairs.len() {
         return false;
     }
-    for i in 0..pairs.len() {
-        if i < found.len() && found.pair(i) != pairs[i] {
+    for i in 0..found.len() {
+        let pair = found.pair(i);
+        if [pair.rep, pair.member] != pairs[i] {
             return false;
         }
     }
     true
 }
 
-// Whether one of the logs isn't accepted.
-fn is_none(alloc: Global, product: &Product, from: u32, base: &str, step: &str) -> bool {
-    match pairs_by(alloc, product, from, base, step) {
-        Ok(None) => true,
-        _ => false,
+// Whether two logs over one frame rest on these pairs, or one of them isn't accepted.
+fn rest_on(
+    alloc: Global,
+    product: &Product,
+    classes: &Classes,
+    logs: (&Log, &Log),
+    row: Row,
+) -> bool {
+    let Some(pair) = classes.next_pair(row.0) else {
+        return false;
+    };
+    if classes.len() != product.len() {
+        return false;
+    }
+    match log_pairs(alloc, product, 1, classes, pair, logs.0, logs.1) {
+        Ok(Some(found)) => are_pairs(&found, row.3),
+        Ok(None) => row.3.is_none(),
+        Err(_) => false,
+    }
+}
+
+// The same of the logs of a row, of which the second is read while the first is lent.
+fn rest_after(alloc: Global, product: &Product, classes: &Classes, base: &Log, row: Row) -> bool {
+    match read_log(alloc, row.2.as_bytes()) {
+        Ok(step) => rest_on(alloc, product, classes, (base, &step), row),
+        Err(_) => false,
+    }
+}
+
+fn is_row(alloc: Global, product: &Product, classes: &Classes, row: Row) -> bool {
+    match read_log(alloc, row.1.as_bytes()) {
+        Ok(base) => rest_after(alloc, product, classes, &base, row),
+        Err(_) => false,
+    }
+}
+
+// All four places in one class.
+fn one_class(alloc: Global) -> Result<Classes, AllocError> {
+    let phases = row_of(alloc, 4, 0)?;
+    Classes::one_class(alloc, &phases)
+}
+
+// Whether all rows are so.
+fn are_rows(alloc: Global, product: &Product, classes: &Classes) -> bool {
+    const NONE: &[[u32; 2]] = &[];
+    const INPUT: &[[u32; 2]] = &[[0, 1]];
+    const ROWS: &[Row] = &[
+        (2, "0 6 1 2 4 0\n", "0 15 2 13 3 1 0\n", Some(NONE)),
+        (3, "0 6 1 3 4 0\n", "0 15 2 13 5 7 1 0\n", Some(INPUT)),
+        (3, "0 6 1 2 4 0\n", "0 15 2 13 5 7 1 0\n", None),
+        (3, "0 6 1 3 4 0\n", "0 15 2 13 3 1 0\n", None),
+    ];
+    for &row in ROWS {
+        if !is_row(alloc, product, classes, row) {
+            return false;
+        }
+    }
+    true
+}
+
+fn reach_pairs(alloc: Global, product: &Product) -> bool {
+    match one_class(alloc) {
+        Ok(classes) => are_rows(alloc, product, &classes),
+        Err(_) => false,
     }
 }
 
 #[test]
 fn logs_rest_on_the_pairs_whose_clauses_they_reach(rt: HostRuntime) -> Result<(), Fail> {
-    let alloc = rt.alloc();
-    let Ok(product) = pair_of(alloc, STAYS_LOW, TAKES_THE_INPUT) else {
-        assert!(rt; false);
-        return Ok(());
-    };
-    let input = [Needed { rep: 0, member: 1 }];
-    assert!(rt;
-        rests_on(
-            alloc,
-            &product,
-            2,
-            "0 6 1 2 4 0\n",
-            "0 15 2 13 3 1 0\n",
-            &[]
-        )
-    );
-    assert!(rt;
-        rests_on(
-            alloc,
-            &product,
-            3,
-            "0 6 1 3 4 0\n",
-            "0 15 2 13 5 7 1 0\n",
-            &input
-        )
-    );
-    assert!(rt; is_none(alloc, &product, 3, "0 6 1 2 4 0\n", "0 15 2 13 5 7 1 0\n"));
-    assert!(rt; is_none(alloc, &product, 3, "0 6 1 3 4 0\n", "0 15 2 13 3 1 0\n"));
+    assert!(rt; pair_is(rt.alloc(), STAYS_LOW, TAKES_THE_INPUT, reach_pairs));
     Ok(())
 }
