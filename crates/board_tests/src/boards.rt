@@ -2,8 +2,8 @@
 ghost use Rattle.std.specs.Prelude.{◌≡◌, ◌≤◌, ◌<◌, ◌+◌, ◌^◌, IfOk, IfSome, true};
 ghost use Rattle.claim_word.specs.Words.{version_of};
 ghost use Rattle.refine_board.specs.Schedules.{opened};
-ghost use Rattle.refine_board.specs.Running.{IsAsked};
-ghost use Rattle.verdict_stamp.specs.Published.{IsStampOf};
+ghost use Rattle.refine_board.specs.Running.{IsOwed};
+ghost use Rattle.verdict_stamp.specs.Proofs.{IsProof};
 
 use crate::circuits::{DELAY, LATE_DELAY, NOTHING, TOGGLE, pair_of};
 use crate::known::known_turns;
@@ -21,73 +21,81 @@ use std::sync::ledger::Blank;
 use std::test::Fail;
 use verdict_stamp::{Known, Proof, Stamp, Version, Versions, greatest_classes};
 
-// An offer, and its version.
-#[derive(Drop)]
-pub(crate) struct Work<'v, 'p, L: Run> {
-    pub(crate) offer: Offer<'p, L>,
-    pub(crate) stamp: Stamp<'p>,
-    pub(crate) version: &'v Version<'p>,
-    ghost asked: { IsAsked version.now offer.pair },
-    ghost stamped: { IsStampOf L.list stamp version.now },
-}
-
 // Asks for a pair.
 pub(crate) fn ask<'v, 'p, L: Run>(
     rt: &impl Wait,
-    alloc: Global,
     board: &mut Board<'v, 'p, L>,
     party: u32,
-) -> Result<Option<Work<'v, 'p, L>>, AllocError>
+) -> Result<Option<Offer<'p, L>>, AllocError>
     requires party { party < L.workers + 1 }
 {
     match board.take(rt, party)? {
-        Take::Offer(offer) => {
-            let stamp = offer.stamp().copy();
-            let version = board.versions().at(&stamp);
-            Ok(Some(Work {
-                offer,
-                stamp,
-                version,
-            }))
-        }
+        Take::Offer(offer) => Ok(Some(offer)),
         _ => Ok(None),
     }
 }
 
-// Proves the pair, and hands the answer in.
-pub(crate) fn answer<'v, 'p, L: Run>(
-    alloc: Global,
+// Hands in what came of the pair of an offer. The stamp is lent, so that no function owns all three.
+fn hand_in<'v, 'p, L: Run>(
     board: &mut Board<'v, 'p, L>,
-    work: Work<'v, 'p, L>,
-) -> Result<(), AllocError> {
-    let Work {
-        offer,
-        stamp,
-        version,
-    } = work;
-    match proof_of(alloc, version, offer.pair())? {
+    offer: Offer<'p, L>,
+    stamp: &Stamp<'p>,
+    proof: Proof<'_, 'p>,
+)
+    requires own { IsOwed L.pair L.k L.list offer }
+    requires stamp { stamp.now ≡ offer.stamp }
+    requires proof { IsProof offer.stamp.value.version offer.pair.member proof }
+{
+    match proof {
         Proof::Holds(verdict) => {
-            board.keep(offer, verdict, &stamp);
+            board.keep(offer, verdict, stamp);
         }
         Proof::Splits(vector) => {
             board.split(offer, vector);
         }
     }
-    Ok(())
+}
+
+// Proves the pair under its stamp, and hands the answer in.
+fn answer_under<'v, 'p, L: Run>(
+    alloc: Global,
+    board: &mut Board<'v, 'p, L>,
+    offer: Offer<'p, L>,
+    stamp: &Stamp<'p>,
+) -> Result<(), AllocError>
+    requires own { IsOwed L.pair L.k L.list offer }
+    requires stamp { stamp.now ≡ offer.stamp }
+{
+    let version = board.versions().at(stamp);
+    match proof_of(alloc, version, offer.pair()) {
+        Ok(proof) => {
+            hand_in(board, offer, stamp, proof);
+            Ok(())
+        }
+        Err(e) => Err(e),
+    }
+}
+
+pub(crate) fn answer<'v, 'p, L: Run>(
+    alloc: Global,
+    board: &mut Board<'v, 'p, L>,
+    offer: Offer<'p, L>,
+) -> Result<(), AllocError> {
+    let stamp = offer.stamp().copy();
+    answer_under(alloc, board, offer, &stamp)
 }
 
 // Asks, and keeps the work, if there is some.
-fn ask_turn<'v, 'p, L: Run>(
+pub(crate) fn ask_turn<'v, 'p, L: Run>(
     rt: &impl Wait,
-    alloc: Global,
     board: &mut Board<'v, 'p, L>,
-    works: &mut Vec<Work<'v, 'p, L>>,
+    works: &mut Vec<Offer<'p, L>>,
     party: u32,
 ) -> Result<(), AllocError>
     requires party { party < L.workers + 1 }
 {
-    if let Some(work) = ask(rt, alloc, board, party)? {
-        works.push(work)?;
+    if let Some(offer) = ask(rt, board, party)? {
+        works.push(offer)?;
     }
     Ok(())
 }
@@ -96,14 +104,14 @@ fn ask_turn<'v, 'p, L: Run>(
 fn answer_turn<'v, 'p, L: Run>(
     alloc: Global,
     board: &mut Board<'v, 'p, L>,
-    works: &mut Vec<Work<'v, 'p, L>>,
+    works: &mut Vec<Offer<'p, L>>,
     at: usize,
 ) -> Result<(), AllocError> {
     if at < works.len() {
-        let work = works.remove(at);
-        answer(alloc, board, work)?;
+        answer(alloc, board, works.remove(at))
+    } else {
+        Ok(())
     }
-    Ok(())
 }
 
 // A turn of two workers: one of them asks, or the work that was taken first is answered.
@@ -118,14 +126,14 @@ fn take_turn<'v, 'p, L: Run>(
     rt: &impl Wait,
     alloc: Global,
     board: &mut Board<'v, 'p, L>,
-    works: &mut Vec<Work<'v, 'p, L>>,
+    works: &mut Vec<Offer<'p, L>>,
     turn: Turn,
 ) -> Result<(), AllocError>
     requires workers { 2 ≤ L.workers }
 {
     match turn {
-        Turn::First => ask_turn(rt, alloc, board, works, 0),
-        Turn::Second => ask_turn(rt, alloc, board, works, 1),
+        Turn::First => ask_turn(rt, board, works, 0),
+        Turn::Second => ask_turn(rt, board, works, 1),
         Turn::Answer => answer_turn(alloc, board, works, 0),
     }
 }
@@ -134,7 +142,7 @@ fn take_turns<'v, 'p, L: Run>(
     rt: &impl Wait,
     alloc: Global,
     board: &mut Board<'v, 'p, L>,
-    works: &mut Vec<Work<'v, 'p, L>>,
+    works: &mut Vec<Offer<'p, L>>,
     turns: &[Turn],
 ) -> Result<(), AllocError>
     requires workers { 2 ≤ L.workers }
@@ -146,10 +154,10 @@ fn take_turns<'v, 'p, L: Run>(
 }
 
 // The index of a party's work, or 9 for none.
-fn index_of<L: Run>(works: &Vec<Work<'_, '_, L>>, party: u32) -> usize {
+fn index_of<L: Run>(works: &Vec<Offer<'_, L>>, party: u32) -> usize {
     for work in works {
-        if work.offer.party() == party {
-            return work.stamp.index();
+        if work.party() == party {
+            return work.stamp().index();
         }
     }
     9
@@ -157,6 +165,27 @@ fn index_of<L: Run>(works: &Vec<Work<'_, '_, L>>, party: u32) -> usize {
 
 // Two workers: both ask, the first answers and then the second; the first asks, then the second, and the first answers; the
 // second asks. The indices of the first three offers.
+fn two_turns_with<'v, 'p, L: Run>(
+    rt: &impl Wait,
+    alloc: Global,
+    board: &mut Board<'v, 'p, L>,
+    works: &mut Vec<Offer<'p, L>>,
+) -> Result<[usize; 3], AllocError>
+    requires workers { 2 ≤ L.workers }
+{
+    const BOTH_ASK: &[Turn] = &[Turn::First, Turn::Second];
+    const BOTH_ANSWER: &[Turn] = &[Turn::Answer, Turn::Answer, Turn::First];
+    const SECOND_ASKS: &[Turn] = &[Turn::Second, Turn::Answer, Turn::Second];
+    take_turns(rt, alloc, board, works, BOTH_ASK)?;
+    let first = index_of(works, 0);
+    let second = index_of(works, 1);
+    take_turns(rt, alloc, board, works, BOTH_ANSWER)?;
+    let next = index_of(works, 0);
+    take_turns(rt, alloc, board, works, SECOND_ASKS)?;
+    Ok([first, second, next])
+}
+
+// The same with works of their own.
 fn two_turns<'v, 'p, L: Run>(
     rt: &impl Wait,
     alloc: Global,
@@ -164,16 +193,8 @@ fn two_turns<'v, 'p, L: Run>(
 ) -> Result<[usize; 3], AllocError>
     requires workers { 2 ≤ L.workers }
 {
-    const BOTH_ASK: &[Turn] = &[Turn::First, Turn::Second];
-    const BOTH_ANSWER: &[Turn] = &[Turn::Answer, Turn::Answer, Turn::First];
-    const SECOND_ASKS: &[Turn] = &[Turn::Second, Turn::Answer, Turn::Second];
     let mut works = Vec::new(alloc);
-    take_turns(rt, alloc, board, &mut works, BOTH_ASK)?;
-    let both = [index_of(&works, 0), index_of(&works, 1)];
-    take_turns(rt, alloc, board, &mut works, BOTH_ANSWER)?;
-    let next = index_of(&works, 0);
-    take_turns(rt, alloc, board, &mut works, SECOND_ASKS)?;
-    Ok([both[0], both[1], next])
+    two_turns_with(rt, alloc, board, &mut works)
 }
 
 fn word_of(step: &Step) -> &'static str {
@@ -239,7 +260,7 @@ pub(crate) fn begins_so(journal: &Journal, entries: &[EntryRow]) -> bool {
 // Who plays on a board: two workers by turns; two of which the second answers by what is known; three, of which the first splits the
 // classes before the others answer by logs, or after it; one that claims its pairs; two that claim theirs, of which one splits the
 // classes before the other answers; or three, whose turns are drawn from a seed.
-#[derive(Drop)]
+#[derive(Clone, Copy)]
 pub(crate) enum Players<'a, 'p> {
     ByTurns,
     ByKnown(&'a Known<'p>),
@@ -306,16 +327,54 @@ fn play_from<'v, 'p, L: Run>(
     let mut board = Board::<'v, 'p, L>::open(alloc, blank, versions, word.0, word.1, first, 3)?;
     let played = play(rt, alloc, &mut board, who);
     let (version, journal) = board.close();
-    let (indices, is_as_due) = played?;
-    Ok(BoardEnd {
-        version,
-        journal,
-        indices,
-        is_as_due,
-    })
+    match played {
+        Ok(found) => {
+            let (indices, is_as_due) = found;
+            Ok(BoardEnd {
+                version,
+                journal,
+                indices,
+                is_as_due,
+            })
+        }
+        Err(e) => Err(e),
+    }
 }
 
-// What they make of a pair, from its first version for induction over k frames.
+// What they make of a pair, from its first version for induction over k frames, with a word that nothing was claimed from.
+fn played_with<'p>(
+    rt: &impl Wait,
+    alloc: Global,
+    versions: &Versions<'p>,
+    word: (&ClaimWord, Seat),
+    product: &'p Product,
+    k: u32,
+    who: Players<'_, 'p>,
+) -> Result<BoardEnd<'p>, AllocError>
+    requires some { 0 < k }
+    requires few { k ≤ 16 }
+    requires seat { (word.1.word ≡ word.0.now) × (word.1.board ≡ true) × (version_of word.1.written ≡ 0) }
+{
+    let first = Version::first(alloc, product, k)?;
+    play_from::<Brand>(rt, alloc, Blank::new(1 << 62), versions, word, first, who)
+}
+
+// What they make of it on a list of versions.
+fn played_on<'p>(
+    rt: &impl Wait,
+    alloc: Global,
+    versions: &Versions<'p>,
+    product: &'p Product,
+    k: u32,
+    who: Players<'_, 'p>,
+) -> Result<BoardEnd<'p>, AllocError>
+    requires some { 0 < k }
+    requires few { k ≤ 16 }
+{
+    let (word, seat) = ClaimWord::new(alloc, 0)?;
+    played_with(rt, alloc, versions, (&word, seat), product, k, who)
+}
+
 pub(crate) fn played<'p>(
     rt: &impl Wait,
     alloc: Global,
@@ -326,56 +385,41 @@ pub(crate) fn played<'p>(
     requires some { 0 < k }
     requires few { k ≤ 16 }
 {
-    let first = Version::first(alloc, product, k)?;
     let versions = Versions::new(alloc)?;
-    let (word, seat) = ClaimWord::new(alloc, 0)?;
-    play_from::<Brand>(
-        rt,
-        alloc,
-        Blank::new(1 << 62),
-        &versions,
-        (&word, seat),
-        first,
-        who,
-    )
+    played_on(rt, alloc, &versions, product, k, who)
 }
 
-// What two workers make of a pair.
-fn worked<'p>(
-    rt: &impl Wait,
-    alloc: Global,
-    product: &'p Product,
-) -> Result<BoardEnd<'p>, AllocError> {
-    played(rt, alloc, product, 1, Players::ByTurns)
-}
-
-#[test]
-fn offers_have_one_index_until_a_split(rt: HostRuntime) -> Result<(), Fail> {
-    let alloc = rt.alloc();
-    match pair_of(alloc, TOGGLE, TOGGLE) {
-        Ok(product) => assert_eq!(rt; worked(&rt, alloc, &product)?.indices, [0, 0, 1]),
-        Err(_) => assert!(rt; false),
+// Whether the replay of a journal from a version has the last classes of its board.
+fn ends_as_replayed(alloc: Global, first: &Version<'_>, end: &BoardEnd<'_>) -> bool {
+    match replay(alloc, first, 3, &end.journal) {
+        Ok(classes) => same_classes(&classes, end.version.classes()),
+        Err(_) => false,
     }
-    Ok(())
 }
 
-// Whether the replay of the journal has the board's last classes.
-fn is_as_replayed(
-    alloc: Global,
-    product: &Product,
-    worked: &BoardEnd<'_>,
-) -> Result<bool, AllocError> {
-    let first = Version::first(alloc, product, 1)?;
-    let classes = replay(alloc, &first, 3, &worked.journal)?;
-    Ok(same_classes(&classes, worked.version.classes()))
+// The same from a pair's first version.
+fn is_as_replayed(alloc: Global, product: &Product, end: &BoardEnd<'_>) -> bool {
+    match Version::first(alloc, product, 1) {
+        Ok(first) => ends_as_replayed(alloc, &first, end),
+        Err(_) => false,
+    }
 }
 
-// Whether the workers split and count the pair of toggles.
-fn toggles_are_counted(
-    rt: &impl Wait,
-    alloc: Global,
-    product: &Product,
-) -> Result<bool, AllocError> {
+// What two workers are to make of a pair.
+#[derive(Clone, Copy)]
+enum Due {
+    // The first two offers have one index, and the third the next.
+    Indices,
+    // They split and count the pair of toggles.
+    Counted,
+    // The second worker's proof is outdated, and its pair splits under the next version.
+    Outdated,
+    // Each is told at once that all is done.
+    Done,
+}
+
+// Whether the toggles are split and counted.
+fn toggles_are_counted(alloc: Global, product: &Product, end: &BoardEnd<'_>) -> bool {
     const ENTRIES: &[EntryRow] = &[
         (0, 0, "offered", [0, 1]),
         (1, 0, "offered", [0, 2]),
@@ -386,25 +430,13 @@ fn toggles_are_counted(
         (0, 3, "counted", [1, 2]),
         (1, 3, "done", [0, 0]),
     ];
-    let end = worked(rt, alloc, product)?;
-    let so = end.version.classes().count() == 2
+    end.version.classes().count() == 2
         && end.journal.len() == 8
-        && begins_so(&end.journal, ENTRIES);
-    Ok(is_as_replayed(alloc, product, &end)? && so)
+        && begins_so(&end.journal, ENTRIES)
+        && is_as_replayed(alloc, product, end)
 }
 
-#[test]
-fn two_workers_split_and_count_a_pair_of_toggles(rt: HostRuntime) -> Result<(), Fail> {
-    let alloc = rt.alloc();
-    match pair_of(alloc, TOGGLE, TOGGLE) {
-        Ok(product) => assert!(rt; toggles_are_counted(&rt, alloc, &product)?),
-        Err(_) => assert!(rt; false),
-    }
-    Ok(())
-}
-
-// Whether the second worker's proof is outdated, and its pair splits under the next version.
-fn proof_is_outdated(rt: &impl Wait, alloc: Global, product: &Product) -> Result<bool, AllocError> {
+fn proof_is_outdated(journal: &Journal) -> bool {
     const ENTRIES: &[EntryRow] = &[
         (0, 0, "offered", [0, 1]),
         (1, 0, "offered", [0, 2]),
@@ -412,57 +444,95 @@ fn proof_is_outdated(rt: &impl Wait, alloc: Global, product: &Product) -> Result
         (1, 1, "stale", [0, 2]),
         (0, 2, "offered", [0, 2]),
     ];
-    let end = worked(rt, alloc, product)?;
-    let journal = &end.journal;
-    Ok(
-        begins_so(journal, ENTRIES)
-            && journal.len() > 6
-            && word_of(&journal.entry(6).step) == "split",
-    )
+    begins_so(journal, ENTRIES) && journal.len() > 6 && word_of(&journal.entry(6).step) == "split"
+}
+
+// Whether an end is as it is due.
+fn is_due(alloc: Global, product: &Product, end: &BoardEnd<'_>, due: Due) -> bool {
+    match due {
+        Due::Indices => end.indices == [0, 0, 1],
+        Due::Counted => toggles_are_counted(alloc, product, end),
+        Due::Outdated => proof_is_outdated(&end.journal),
+        Due::Done => {
+            end.version.classes().count() == 1 && is_entry(&end.journal, 0, 0, 0, "done", [0, 0])
+        }
+    }
+}
+
+// Whether two workers make that of a pair.
+fn makes(rt: &impl Wait, alloc: Global, product: &Product, due: Due) -> bool {
+    match played(rt, alloc, product, 1, Players::ByTurns) {
+        Ok(end) => is_due(alloc, product, &end, due),
+        Err(_) => false,
+    }
+}
+
+// The same of two netlists.
+fn make(rt: &impl Wait, alloc: Global, left: &str, right: &str, due: Due) -> bool {
+    match pair_of(alloc, left, right) {
+        Ok(product) => makes(rt, alloc, &product, due),
+        Err(_) => false,
+    }
+}
+
+#[test]
+fn offers_have_one_index_until_a_split(rt: HostRuntime) -> Result<(), Fail> {
+    assert!(rt; make(&rt, rt.alloc(), TOGGLE, TOGGLE, Due::Indices));
+    Ok(())
+}
+
+#[test]
+fn two_workers_split_and_count_a_pair_of_toggles(rt: HostRuntime) -> Result<(), Fail> {
+    assert!(rt; make(&rt, rt.alloc(), TOGGLE, TOGGLE, Due::Counted));
+    Ok(())
 }
 
 #[test]
 fn an_outdated_proof_is_stale_and_its_pair_splits(rt: HostRuntime) -> Result<(), Fail> {
-    let alloc = rt.alloc();
-    match pair_of(alloc, DELAY, LATE_DELAY) {
-        Ok(product) => assert!(rt; proof_is_outdated(&rt, alloc, &product)?),
-        Err(_) => assert!(rt; false),
-    }
+    assert!(rt; make(&rt, rt.alloc(), DELAY, LATE_DELAY, Due::Outdated));
     Ok(())
-}
-
-// Whether each worker is told at once that all is done.
-fn is_done_at_once(rt: &impl Wait, alloc: Global, product: &Product) -> Result<bool, AllocError> {
-    let end = worked(rt, alloc, product)?;
-    Ok(end.version.classes().count() == 1 && is_entry(&end.journal, 0, 0, 0, "done", [0, 0]))
 }
 
 #[test]
 fn a_pair_with_one_signal_is_done_at_once(rt: HostRuntime) -> Result<(), Fail> {
-    let alloc = rt.alloc();
-    match pair_of(alloc, NOTHING, NOTHING) {
-        Ok(product) => assert!(rt; is_done_at_once(&rt, alloc, &product)?),
-        Err(_) => assert!(rt; false),
-    }
+    assert!(rt; make(&rt, rt.alloc(), NOTHING, NOTHING, Due::Done));
     Ok(())
 }
 
-// A party of three without work.
-fn idle_party<L: Run>(works: &Vec<Work<'_, '_, L>>) -> u32
-    ensures { result < 3 }
-{
-    for party in 0..2u32 {
-        if works.iter().all(|work| work.offer.party() != party) {
-            return party;
+// Whether a party has work.
+fn has_work<L: Run>(works: &Vec<Offer<'_, L>>, party: u32) -> bool {
+    for work in works {
+        if work.party() == party {
+            return true;
         }
     }
-    2
+    false
+}
+
+// A party of three without work.
+fn idle_party<L: Run>(works: &Vec<Offer<'_, L>>) -> u32
+    ensures { result < 3 }
+{
+    if !has_work(works, 0) {
+        0
+    } else if !has_work(works, 1) {
+        1
+    } else {
+        2
+    }
 }
 
 // Whether two partitions are equal.
 fn same_classes(a: &Classes, b: &Classes) -> bool {
-    let n = a.len();
-    n == b.len() && (0..n).all(|p| a.rep(p) == b.rep(p) && a.phase(p) == b.phase(p))
+    if a.len() != b.len() {
+        return false;
+    }
+    for place in 0..a.len() {
+        if a.rep(place) != b.rep(place) || a.phase(place) != b.phase(place) {
+            return false;
+        }
+    }
+    true
 }
 
 // Whether the replay of the journal has the board's classes.
@@ -477,22 +547,53 @@ fn drawn_turn<'v, 'p, L: Run>(
     rt: &impl Wait,
     alloc: Global,
     board: &mut Board<'v, 'p, L>,
-    works: &mut Vec<Work<'v, 'p, L>>,
+    works: &mut Vec<Offer<'p, L>>,
     draw: usize,
 ) -> Result<bool, AllocError>
     requires workers { 3 ≤ L.workers }
 {
     if works.len() < 3 && draw % 2 == 0 {
         let party = idle_party(works);
-        ask_turn(rt, alloc, board, works, party)?;
+        ask_turn(rt, board, works, party)?;
     } else {
         answer_turn(alloc, board, works, draw / 2 % 3)?;
     }
     is_replayed(alloc, board)
 }
 
-// Turns of three workers, drawn from a seed; then their offers are given back, and a fourth party works alone. Answers
-// whether at each turn the replay of the journal had the board's classes.
+// Turns of three workers, drawn from a seed. Answers whether at each turn the replay of the journal had the board's classes.
+fn drawn_with<'v, 'p, L: Run>(
+    rt: &impl Wait,
+    alloc: Global,
+    board: &mut Board<'v, 'p, L>,
+    works: &mut Vec<Offer<'p, L>>,
+    seed: u64,
+) -> Result<bool, AllocError>
+    requires workers { 3 ≤ L.workers }
+{
+    let mut state = seed;
+    let mut same = true;
+    for _turn in 0..40u32 {
+        state = state
+            .wrapping_mul(6364136223846793005)
+            .wrapping_add(1442695040888963407);
+        if !drawn_turn(rt, alloc, board, works, (state >> 33) as usize)? {
+            same = false;
+        }
+    }
+    Ok(same)
+}
+
+// Gives the offers back.
+fn give_back<'v, 'p, L: Run>(board: &mut Board<'v, 'p, L>, mut works: Vec<Offer<'p, L>>) {
+    for _offer in 0..3u32 {
+        if let Some(offer) = works.pop() {
+            board.back(offer);
+        }
+    }
+}
+
+// Those turns; then the offers are given back, and a fourth party works alone.
 fn drawn_turns<'v, 'p, L: Run>(
     rt: &impl Wait,
     alloc: Global,
@@ -502,23 +603,10 @@ fn drawn_turns<'v, 'p, L: Run>(
     requires workers { 3 ≤ L.workers }
 {
     let mut works = Vec::new(alloc);
-    let mut state = seed;
-    let mut same = true;
-    for _turn in 0..40u32 {
-        state = state
-            .wrapping_mul(6364136223846793005)
-            .wrapping_add(1442695040888963407);
-        if !drawn_turn(rt, alloc, board, &mut works, (state >> 33) as usize)? {
-            same = false;
-        }
-    }
-    for _offer in 0..3u32 {
-        if let Some(work) = works.pop() {
-            board.back(work.offer);
-        }
-    }
+    let same = drawn_with(rt, alloc, board, &mut works, seed);
+    give_back(board, works);
     finish(board, alloc, 3)?;
-    Ok(same)
+    same
 }
 
 // Whether a drawn schedule of a pair ends at its greatest classes.
@@ -528,20 +616,36 @@ fn ends_at_greatest(
     product: &Product,
     greatest: &Classes,
     seed: u64,
-) -> Result<bool, AllocError> {
-    let end = played(rt, alloc, product, 1, Players::Drawn(seed))?;
-    Ok(end.is_as_due && same_classes(end.version.classes(), greatest))
+) -> bool {
+    match played(rt, alloc, product, 1, Players::Drawn(seed)) {
+        Ok(end) => end.is_as_due && same_classes(end.version.classes(), greatest),
+        Err(_) => false,
+    }
 }
 
 // Whether the schedules of four seeds do.
-fn end_at_greatest(rt: &impl Wait, alloc: Global, product: &Product) -> Result<bool, AllocError> {
-    let greatest = greatest_classes(alloc, product, 1)?;
+fn all_end_at(rt: &impl Wait, alloc: Global, product: &Product, greatest: &Classes) -> bool {
     for seed in 0..4u64 {
-        if !ends_at_greatest(rt, alloc, product, greatest.classes(), seed)? {
-            return Ok(false);
+        if !ends_at_greatest(rt, alloc, product, greatest, seed) {
+            return false;
         }
     }
-    Ok(true)
+    true
+}
+
+fn end_at_greatest(rt: &impl Wait, alloc: Global, product: &Product) -> bool {
+    match greatest_classes(alloc, product, 1) {
+        Ok(greatest) => all_end_at(rt, alloc, product, greatest.classes()),
+        Err(_) => false,
+    }
+}
+
+// The same of two netlists.
+fn netlists_end_at_greatest(rt: &impl Wait, alloc: Global, left: &str, right: &str) -> bool {
+    match pair_of(alloc, left, right) {
+        Ok(product) => end_at_greatest(rt, alloc, &product),
+        Err(_) => false,
+    }
 }
 
 #[test]
@@ -552,12 +656,8 @@ fn every_drawn_schedule_ends_at_the_greatest_classes(rt: HostRuntime) -> Result<
         (DELAY, DELAY),
         (NOTHING, NOTHING),
     ];
-    let alloc = rt.alloc();
     for &(left, right) in PAIRS {
-        match pair_of(alloc, left, right) {
-            Ok(product) => assert!(rt; end_at_greatest(&rt, alloc, &product)?),
-            Err(_) => assert!(rt; false),
-        }
+        assert!(rt; netlists_end_at_greatest(&rt, rt.alloc(), left, right));
     }
     Ok(())
 }

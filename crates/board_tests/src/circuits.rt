@@ -65,3 +65,18 @@ pub(crate) fn pair_of(alloc: Global, left: &str, right: &str) -> Result<Product,
         _ => Err(PairFault::Memory),
     }
 }
+
+// Whether the pair of two texts is as it is asked for. Tests lend pairs so: none owns one where it may end.
+pub(crate) fn pair_is<F: FnOnce(Global, &Product) -> bool>(
+    alloc: Global,
+    left: &str,
+    right: &str,
+    is_so: F,
+) -> bool
+    requires { F.IsAlwaysCallable is_so }
+{
+    match pair_of(alloc, left, right) {
+        Ok(product) => is_so(alloc, &product),
+        Err(_) => false,
+    }
+}

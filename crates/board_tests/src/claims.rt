@@ -8,30 +8,61 @@ use std::alloc::{AllocError, Global};
 use std::test::Fail;
 use std::thread::{Threads, join, yield_now};
 
+// Whether a board's seat claims the pairs of three versions, of two, one and many pairs.
+fn claims_versions(word: &ClaimWord, seat: &mut Seat) -> bool
+    requires own { seat.old.word ≡ word.now }
+    requires board { seat.old.board ≡ true }
+    requires first { version_of seat.old.written ≡ 0 }
+{
+    let first = word.claim(seat);
+    let second = word.claim(seat);
+    let spent = word.claim(seat);
+    word.advance(seat, 1, 1);
+    let alone = word.claim(seat);
+    let spent_again = word.claim(seat);
+    word.advance(seat, 4_194_303, 2_097_151);
+    let last = word.claim(seat);
+    let seen = word.seen(seat);
+    first == Claim::Mine(0, 0)
+        && second == Claim::Mine(0, 1)
+        && spent == Claim::Spent(0)
+        && alone == Claim::Mine(1, 0)
+        && spent_again == Claim::Spent(1)
+        && last == Claim::Mine(4_194_303, 0)
+        && seen == u64::MAX - 2_097_150
+}
+
 #[test]
 fn one_seat_claims_each_pair_of_a_version_once(rt: HostRuntime) -> Result<(), Fail> {
-    let (word, mut seat) = ClaimWord::new(rt.alloc(), 2)?;
-    assert!(rt; word.claim(&mut seat) == Claim::Mine(0, 0));
-    assert!(rt; word.claim(&mut seat) == Claim::Mine(0, 1));
-    assert!(rt; word.claim(&mut seat) == Claim::Spent(0));
-    word.advance(&mut seat, 1, 1);
-    assert!(rt; word.claim(&mut seat) == Claim::Mine(1, 0));
-    assert!(rt; word.claim(&mut seat) == Claim::Spent(1));
-    word.advance(&mut seat, 4_194_303, 2_097_151);
-    assert!(rt; word.claim(&mut seat) == Claim::Mine(4_194_303, 0));
-    assert!(rt; word.seen(&mut seat) == u64::MAX - 2_097_150);
+    match ClaimWord::new(rt.alloc(), 2) {
+        Ok((word, mut seat)) => assert!(rt; claims_versions(&word, &mut seat)),
+        Err(_) => assert!(rt; false),
+    }
     Ok(())
+}
+
+// Whether a seat and one that is split off claim a pair each, and the seat claims on once that is back.
+fn claims_split(word: &ClaimWord, seat: &mut Seat) -> bool
+    requires own { seat.old.word ≡ word.now }
+{
+    let mut other = word.split_seat(seat);
+    let first = word.claim(&mut other);
+    let second = word.claim(seat);
+    word.join_seat(seat, other);
+    let seen = word.seen(seat);
+    let third = word.claim(seat);
+    first == Claim::Mine(0, 0)
+        && second == Claim::Mine(0, 1)
+        && seen == 3 * 2_097_152 + 2
+        && third == Claim::Mine(0, 2)
 }
 
 #[test]
 fn a_split_seat_claims_on_and_comes_back(rt: HostRuntime) -> Result<(), Fail> {
-    let (word, mut seat) = ClaimWord::new(rt.alloc(), 3)?;
-    let mut other = word.split_seat(&mut seat);
-    assert!(rt; word.claim(&mut other) == Claim::Mine(0, 0));
-    assert!(rt; word.claim(&mut seat) == Claim::Mine(0, 1));
-    word.join_seat(&mut seat, other);
-    assert!(rt; word.seen(&mut seat) == 3 * 2_097_152 + 2);
-    assert!(rt; word.claim(&mut seat) == Claim::Mine(0, 2));
+    match ClaimWord::new(rt.alloc(), 3) {
+        Ok((word, mut seat)) => assert!(rt; claims_split(&word, &mut seat)),
+        Err(_) => assert!(rt; false),
+    }
     Ok(())
 }
 
@@ -57,15 +88,33 @@ fn claim_by_each(
     Some(((version, index), (other_version, other_index)))
 }
 
+// Whether a board's seat and another claim a pair each of two versions, and none then.
+fn two_claim(word: &ClaimWord, board: &mut Seat, other: &mut Seat) -> bool
+    requires own { board.old.word ≡ word.now }
+    requires board { board.old.board ≡ true }
+    requires first { version_of board.old.written ≡ 0 }
+    requires other { (other.old.word ≡ word.now) × (other.old.board ≡ false) }
+{
+    let first = claim_by_each(word, board, other);
+    word.advance(board, 1, 2);
+    let second = claim_by_each(word, board, other);
+    let third = claim_by_each(word, board, other);
+    let seen = word.seen(other);
+    first == Some(((0, 0), (0, 1)))
+        && second == Some(((1, 0), (1, 1)))
+        && third.is_none()
+        && seen == 4_398_046_511_104 + 2 * 2_097_152 + 2
+}
+
 #[test]
 fn two_seats_claim_two_pairs(rt: HostRuntime) -> Result<(), Fail> {
-    let (word, mut board) = ClaimWord::new(rt.alloc(), 3)?;
-    let mut other = word.split_seat(&mut board);
-    assert!(rt; claim_by_each(&word, &mut board, &mut other) == Some(((0, 0), (0, 1))));
-    word.advance(&mut board, 1, 2);
-    assert!(rt; claim_by_each(&word, &mut board, &mut other) == Some(((1, 0), (1, 1))));
-    assert!(rt; claim_by_each(&word, &mut board, &mut other).is_none());
-    assert!(rt; word.seen(&mut other) == 4_398_046_511_104 + 2 * 2_097_152 + 2);
+    match ClaimWord::new(rt.alloc(), 3) {
+        Ok((word, mut board)) => {
+            let mut other = word.split_seat(&mut board);
+            assert!(rt; two_claim(&word, &mut board, &mut other));
+        }
+        Err(_) => assert!(rt; false),
+    }
     Ok(())
 }
 

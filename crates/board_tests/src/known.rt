@@ -1,42 +1,66 @@
 //! What is known from induction over fewer frames, or by structural hashing: its pairs stay counted while the classes split.
-ghost use Rattle.std.specs.Prelude.{◌≤◌, ◌+◌, ◌<◌};
+ghost use Rattle.std.specs.Prelude.{◌≡◌, ◌≤◌, ◌+◌, ◌<◌};
+ghost use Rattle.refine_board.specs.Running.{IsOwed};
 
-use crate::boards::{EntryRow, Players, Work, answer, ask, begins_so, played};
+use crate::boards::{EntryRow, Players, answer, ask, begins_so, played};
 use crate::circuits::{
     CONTRADICTION, PRODUCT_AND_COMPLEMENT, PRODUCT_TWICE, STUCK, TOGGLE, WIRE, pair_of,
 };
 use product_machine::Product;
-use refine_board::{Board, Run};
+use refine_board::{Board, Offer, Run};
 use std::alloc::{AllocError, Global};
 use std::sync::Wait;
 use std::test::Fail;
-use verdict_stamp::{Known, Verdict, Version, greatest_classes};
+use verdict_stamp::{Known, Stamp, Verdict, Version, greatest_classes};
 
-// Answers an offer by what is known of its pair, or gives it back where nothing is.
+// Hands an offer in by what is known of its pair, or gives it back where nothing is.
+fn hand_known<'v, 'p, L: Run>(
+    board: &mut Board<'v, 'p, L>,
+    offer: Offer<'p, L>,
+    stamp: &Stamp<'p>,
+    known: &Known<'p>,
+)
+    requires own { IsOwed L.pair L.k L.list offer }
+    requires stamp { stamp.now ≡ offer.stamp }
+{
+    let version = board.versions().at(stamp);
+    match Verdict::known(version, offer.pair(), known) {
+        Some(verdict) => {
+            board.keep(offer, verdict, stamp);
+        }
+        None => board.back(offer),
+    }
+}
+
+// Asks, and answers so.
 fn answer_known<'v, 'p, L: Run>(
     rt: &impl Wait,
-    alloc: Global,
     board: &mut Board<'v, 'p, L>,
     known: &Known<'p>,
     party: u32,
 ) -> Result<(), AllocError>
     requires party { party < L.workers + 1 }
 {
-    let Some(work) = ask(rt, alloc, board, party)? else {
-        return Ok(());
-    };
-    let Work {
-        offer,
-        stamp,
-        version,
-    } = work;
-    match Verdict::known(version, offer.pair(), known) {
-        Some(verdict) => {
-            board.keep(offer, verdict, &stamp);
-        }
-        None => board.back(offer),
+    if let Some(offer) = ask(rt, board, party)? {
+        let stamp = offer.stamp().copy();
+        hand_known(board, offer, &stamp, known);
     }
     Ok(())
+}
+
+// The second party answers a pair by what is known, and then the first the one that it took, by a proof.
+fn answer_after<'v, 'p, L: Run>(
+    rt: &impl Wait,
+    alloc: Global,
+    board: &mut Board<'v, 'p, L>,
+    known: &Known<'p>,
+    offer: Offer<'p, L>,
+) -> Result<(), AllocError>
+    requires workers { 2 ≤ L.workers }
+{
+    let second = answer_known(rt, board, known, 1);
+    answer(alloc, board, offer)?;
+    second
 }
 
 // The first party takes a pair, the second answers one by what is known; then the first splits the classes. What is open then the
@@ -49,18 +73,17 @@ pub(crate) fn known_turns<'v, 'p, L: Run>(
 ) -> Result<(), AllocError>
     requires workers { 2 ≤ L.workers }
 {
-    let first = ask(rt, alloc, board, 0)?;
-    answer_known(rt, alloc, board, known, 1)?;
-    if let Some(work) = first {
-        answer(alloc, board, work)?;
+    match ask(rt, board, 0)? {
+        Some(offer) => answer_after(rt, alloc, board, known, offer)?,
+        None => answer_known(rt, board, known, 1)?,
     }
-    answer_known(rt, alloc, board, known, 0)?;
-    answer_known(rt, alloc, board, known, 1)
+    answer_known(rt, board, known, 0)?;
+    answer_known(rt, board, known, 1)
 }
 
 // Whether the pair of the constant and the left latch, which is known from one frame, stays counted on a board for two frames
 // when the input is split off.
-fn stays_counted(rt: &impl Wait, alloc: Global, product: &Product) -> Result<bool, AllocError> {
+fn stays_known(rt: &impl Wait, alloc: Global, product: &Product, known: &Known<'_>) -> bool {
     const ENTRIES: &[EntryRow] = &[
         (0, 0, "offered", [0, 1]),
         (1, 0, "offered", [0, 2]),
@@ -70,19 +93,36 @@ fn stays_counted(rt: &impl Wait, alloc: Global, product: &Product) -> Result<boo
         (0, 3, "counted", [0, 3]),
         (1, 2, "done", [0, 0]),
     ];
+    match played(rt, alloc, product, 2, Players::ByKnown(known)) {
+        Ok(end) => end.journal.len() == 7 && begins_so(&end.journal, ENTRIES),
+        Err(_) => false,
+    }
+}
+
+// What is known from one frame.
+fn known_of<'p>(alloc: Global, product: &'p Product) -> Result<Known<'p>, AllocError> {
     let greatest = greatest_classes(alloc, product, 1)?;
-    let known = Known::of(alloc, greatest.product(), greatest.k(), greatest.classes())?;
-    let end = played(rt, alloc, product, 2, Players::ByKnown(&known))?;
-    Ok(end.journal.len() == 7 && begins_so(&end.journal, ENTRIES))
+    Known::of(alloc, greatest.product(), greatest.k(), greatest.classes())
+}
+
+fn stays_counted(rt: &impl Wait, alloc: Global, product: &Product) -> bool {
+    match known_of(alloc, product) {
+        Ok(known) => stays_known(rt, alloc, product, &known),
+        Err(_) => false,
+    }
+}
+
+// The same of two latches that stay at 0.
+fn stay_counted(rt: &impl Wait, alloc: Global) -> bool {
+    match pair_of(alloc, STUCK, STUCK) {
+        Ok(product) => stays_counted(rt, alloc, &product),
+        Err(_) => false,
+    }
 }
 
 #[test]
 fn a_known_pair_stays_counted_when_the_classes_split(rt: HostRuntime) -> Result<(), Fail> {
-    let alloc = rt.alloc();
-    match pair_of(alloc, STUCK, STUCK) {
-        Ok(product) => assert!(rt; stays_counted(&rt, alloc, &product)?),
-        Err(_) => assert!(rt; false),
-    }
+    assert!(rt; stay_counted(&rt, rt.alloc()));
     Ok(())
 }
 

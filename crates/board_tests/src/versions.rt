@@ -1,9 +1,10 @@
 //! The classes of worked pairs, and what proofs answer on the way to them.
-ghost use Rattle.std.specs.Prelude.{◌≡◌, ◌<◌, ◌≤◌};
+ghost use Rattle.std.specs.Prelude.{◌≡◌, ◌<◌, ◌≤◌, IfOk};
+ghost use Rattle.verdict_stamp.specs.Published.{IsStampOf};
 
 use crate::circuits::{
     DELAY, LATCH_OF_PRODUCT, LATE_DELAY, LOW, PRODUCT_OF_LATCHES, RING, TOGGLE, TOGGLE_FROM_ONE,
-    pair_of,
+    pair_is, pair_of,
 };
 use crate::proving::proof_of;
 use bit_rows::BitRow;
@@ -14,7 +15,7 @@ use std::sync::Wait;
 use std::test::Fail;
 use std::thread;
 use std::thread::Threads;
-use verdict_stamp::{Proof, Version, Versions, greatest_classes};
+use verdict_stamp::{Proof, Stamp, Version, Versions, greatest_classes};
 
 // The least place of each place's class; 9 for none.
 fn table_of(classes: &Classes) -> [u32; 8] {
@@ -42,25 +43,21 @@ fn has_classes(version: &Version<'_>, k: u32, due: Due) -> bool {
 }
 
 // Whether the greatest classes of a pair are these, and come from so many splits at most.
-fn has_greatest(alloc: Global, product: &Product, k: u32, due: Due) -> Result<bool, AllocError>
+fn has_greatest(alloc: Global, product: &Product, k: u32, due: Due) -> bool
     requires { (0 < k) × (k ≤ 16) }
 {
-    let version = greatest_classes(alloc, product, k)?;
-    Ok(has_classes(&version, k, due) && version.number() <= due.splits)
+    match greatest_classes(alloc, product, k) {
+        Ok(version) => has_classes(&version, k, due) && version.number() <= due.splits,
+        Err(_) => false,
+    }
 }
 
-fn are_greatest(
-    alloc: Global,
-    left: &str,
-    right: &str,
-    k: u32,
-    due: Due,
-) -> Result<bool, AllocError>
+fn are_greatest(alloc: Global, left: &str, right: &str, k: u32, due: Due) -> bool
     requires { (0 < k) × (k ≤ 16) }
 {
     match pair_of(alloc, left, right) {
         Ok(product) => has_greatest(alloc, &product, k, due),
-        Err(_) => Ok(false),
+        Err(_) => false,
     }
 }
 
@@ -86,15 +83,25 @@ fn pairs_have_these_classes(rt: HostRuntime) -> Result<(), Fail> {
             count,
             least,
         };
-        assert!(rt; k > 0 && k <= 16 && are_greatest(rt.alloc(), left, right, k, due)?);
+        assert!(rt; k > 0 && k <= 16 && are_greatest(rt.alloc(), left, right, k, due));
     }
     Ok(())
 }
 
 // Whether a pair opens on these classes, after so many splits.
-fn opens_on(alloc: Global, product: &Product, due: Due) -> Result<bool, AllocError> {
-    let version = Version::opening(alloc, product, 1)?;
-    Ok(has_classes(&version, 1, due) && version.number() == due.splits)
+fn opens_on(alloc: Global, product: &Product, due: Due) -> bool {
+    match Version::opening(alloc, product, 1) {
+        Ok(version) => has_classes(&version, 1, due) && version.number() == due.splits,
+        Err(_) => false,
+    }
+}
+
+// The same of two netlists.
+fn pair_opens_on(alloc: Global, left: &str, right: &str, due: Due) -> bool {
+    match pair_of(alloc, left, right) {
+        Ok(product) => opens_on(alloc, &product, due),
+        Err(_) => false,
+    }
 }
 
 #[test]
@@ -106,17 +113,13 @@ fn openings_tell_apart_what_the_first_frames_do(rt: HostRuntime) -> Result<(), F
         // frame 0 tells the inputs and their product apart, and frame 1 the latches
         (PRODUCT_OF_LATCHES, LATCH_OF_PRODUCT, 2, 7, OF_PRODUCTS),
     ];
-    let alloc = rt.alloc();
     for &(left, right, splits, count, least) in OPENINGS {
         let due = Due {
             splits,
             count,
             least,
         };
-        match pair_of(alloc, left, right) {
-            Ok(product) => assert!(rt; opens_on(alloc, &product, due)?),
-            Err(_) => assert!(rt; false),
-        }
+        assert!(rt; pair_opens_on(rt.alloc(), left, right, due));
     }
     Ok(())
 }
@@ -132,7 +135,7 @@ fn number_of(row: &BitRow) -> u32 {
     bits
 }
 
-// Proves the first needed pair of a version at or past a place, and splits a copy where that fails. Answers the member where
+// Proves the first needed pair of a version at or past a place, and splits another where that fails. Answers the member where
 // it holds, or else 9, and the vector's bits.
 fn prove_from(
     alloc: Global,
@@ -145,58 +148,90 @@ fn prove_from(
     ensures product { next.new.pair ≡ next.old.pair }
     ensures k { next.new.k ≡ next.old.k }
 {
-    match version.classes().next_pair(place) {
-        None => Ok([9, 0]),
-        Some(pair) => match proof_of(alloc, version, pair)? {
-            Proof::Holds(verdict) => Ok([verdict.member(), 0]),
-            Proof::Splits(vector) => {
-                next.split_by(&vector);
-                Ok([9, number_of(vector.bits())])
-            }
-        },
+    let Some(pair) = version.classes().next_pair(place) else {
+        return Ok([9, 0]);
+    };
+    match proof_of(alloc, version, pair) {
+        Ok(Proof::Holds(verdict)) => Ok([verdict.member(), 0]),
+        Ok(Proof::Splits(vector)) => {
+            next.split_by(&vector);
+            Ok([9, number_of(vector.bits())])
+        }
+        Err(e) => Err(e),
     }
+}
+
+// Proves one in a copy of a version, and splits the version.
+fn prove_copy(alloc: Global, version: &mut Version<'_>, place: u32) -> Result<[u32; 2], AllocError>
+    ensures product { version.new.pair ≡ version.old.pair }
+    ensures k { version.new.k ≡ version.old.k }
+{
+    let now = version.copy(alloc)?;
+    prove_from(alloc, &now, place, version)
 }
 
 // Two toggling latches: the constant is taken apart by the frame after reset, and then the latches hold together.
 fn toggles(alloc: Global, product: &Product) -> Result<[[u32; 2]; 2], AllocError> {
     let mut version = Version::first(alloc, product, 1)?;
-    let now = version.copy(alloc)?;
-    let first = prove_from(alloc, &now, 0, &mut version)?;
-    let now = version.copy(alloc)?;
-    let second = prove_from(alloc, &now, 0, &mut version)?;
-    Ok([first, second])
+    let first = prove_copy(alloc, &mut version, 0);
+    let second = prove_copy(alloc, &mut version, 0);
+    drop(version);
+    Ok([first?, second?])
+}
+
+fn latches_hold_then(alloc: Global, product: &Product) -> bool {
+    toggles(alloc, product) == Ok([[9, 0b110], [2, 0]])
 }
 
 #[test]
 fn a_vector_takes_the_constant_away_and_then_the_latches_hold(rt: HostRuntime) -> Result<(), Fail> {
-    let alloc = rt.alloc();
-    match pair_of(alloc, TOGGLE, TOGGLE) {
-        Ok(product) => assert!(rt; toggles(alloc, &product)? == [[9, 0b110], [2, 0]]),
-        Err(_) => assert!(rt; false),
-    }
+    assert!(rt; pair_is(rt.alloc(), TOGGLE, TOGGLE, latches_hold_then));
     Ok(())
 }
 
+// The member of the first needed pair of a version at or past a place where it holds, or else 9: a copy is split.
+fn member_from(alloc: Global, version: &Version<'_>, place: u32) -> Result<u32, AllocError> {
+    let mut copy = version.copy(alloc)?;
+    match prove_from(alloc, version, place, &mut copy) {
+        Ok(found) => Ok(found[0]),
+        Err(e) => Err(e),
+    }
+}
+
 // A delay and a late one: the input is told from the constant, and the left latch isn't; after that split it is.
+fn delays_in(alloc: Global, version: &mut Version<'_>) -> Result<[u32; 4], AllocError> {
+    let latch = member_from(alloc, version, 2)?;
+    let input = prove_copy(alloc, version, 1)?;
+    let again = prove_copy(alloc, version, 2)?;
+    Ok([input[0], latch, again[0], version.number()])
+}
+
 fn delays(alloc: Global, product: &Product) -> Result<[u32; 4], AllocError> {
-    let first = Version::first(alloc, product, 1)?;
-    let mut version = first.copy(alloc)?;
-    let input = prove_from(alloc, &first, 1, &mut version)?;
-    let mut unsplit = first.copy(alloc)?;
-    let latch = prove_from(alloc, &first, 2, &mut unsplit)?;
-    let mut later = version.copy(alloc)?;
-    let again = prove_from(alloc, &version, 2, &mut later)?;
-    Ok([input[0], latch[0], again[0], later.number()])
+    let mut version = Version::first(alloc, product, 1)?;
+    delays_in(alloc, &mut version)
+}
+
+fn latch_held_before(alloc: Global, product: &Product) -> bool {
+    delays(alloc, product) == Ok([9, 2, 9, 2])
 }
 
 #[test]
 fn a_pair_that_held_is_taken_apart_after_a_split(rt: HostRuntime) -> Result<(), Fail> {
-    let alloc = rt.alloc();
-    match pair_of(alloc, DELAY, LATE_DELAY) {
-        Ok(product) => assert_eq!(rt; delays(alloc, &product)?, [9, 2, 9, 2]),
-        Err(_) => assert!(rt; false),
-    }
+    assert!(rt; pair_is(rt.alloc(), DELAY, LATE_DELAY, latch_held_before));
     Ok(())
+}
+
+// Pushes a copy with a turn and no open pairs.
+fn push_copy<'p>(
+    rt: &impl Wait,
+    alloc: Global,
+    versions: &Versions<'p>,
+    version: &Version<'p>,
+    turn: u32,
+) -> Result<Stamp<'p>, AllocError>
+    ensures { IfOk result (λ s. IsStampOf versions.now s s.value.version) }
+{
+    versions.push(rt, version.copy(alloc)?, Vec::new(alloc), turn)
 }
 
 // Pushes a copy and reads it. Answers its index, and whether its classes and number are those that were pushed.
@@ -206,44 +241,60 @@ fn push_and_read<'p>(
     versions: &Versions<'p>,
     version: &Version<'p>,
 ) -> Result<(usize, bool), AllocError> {
-    let copy = version.copy(alloc)?;
-    let stamp = versions.push(rt, copy, Vec::new(alloc), 0)?;
+    let stamp = push_copy(rt, alloc, versions, version, 0)?;
     let read = versions.at(&stamp);
     let same = table_of(read.classes()) == table_of(version.classes());
     Ok((stamp.index(), same && read.number() == version.number()))
 }
 
-// Three copies of the first version and the opening's get the indices 0 to 3, and a copy of a stamp is the same stamp.
-fn are_stamped(rt: &impl Wait, alloc: Global, product: &Product) -> Result<bool, AllocError> {
-    let versions = Versions::new(alloc)?;
-    let first = Version::first(alloc, product, 1)?;
-    let opening = Version::opening(alloc, product, 1)?;
-    for index in 0..3usize {
-        if push_and_read(rt, alloc, &versions, &first)? != (index, true) {
-            return Ok(false);
-        }
-    }
-    let a = versions.push(rt, opening, Vec::new(alloc), 1)?;
-    let b = versions.push(rt, first, Vec::new(alloc), 2)?;
-    Ok(
-        a.index() == 3
-            && versions.same(&a, &a.copy())
-            && !versions.same(&a, &b)
-            && versions.at(&a).number() == 1
-            && versions.at(&b).number() == 0
-            && versions.turn(&b) == 2
-            && versions.open_pair(&a, 0).is_none(),
-    )
+// Whether two stamps of a list, of the opening and of the first version, are told apart, and name these with the turn of the second and
+// no open pair of the first.
+fn are_two_stamps<'p>(versions: &Versions<'p>, a: &Stamp<'p>, b: &Stamp<'p>) -> bool
+    requires first { IsStampOf versions.now a.now a.now.value.version }
+    requires second { IsStampOf versions.now b.now b.now.value.version }
+{
+    a.index() == 3
+        && versions.same(a, &a.copy())
+        && !versions.same(a, b)
+        && versions.at(a).number() == 1
+        && versions.at(b).number() == 0
+        && versions.turn(b) == 2
+        && versions.open_pair(a, 0).is_none()
 }
 
-#[test]
-fn a_stamp_names_the_version_that_was_pushed(rt: HostRuntime) -> Result<(), Fail> {
-    let alloc = rt.alloc();
-    match pair_of(alloc, TOGGLE, TOGGLE) {
-        Ok(product) => assert!(rt; are_stamped(&rt, alloc, &product)?),
-        Err(_) => assert!(rt; false),
+// Pushes the first version once more, and asks so.
+fn is_stamp_before<'p>(
+    rt: &impl Wait,
+    alloc: Global,
+    versions: &Versions<'p>,
+    first: &Version<'p>,
+    a: &Stamp<'p>,
+) -> bool
+    requires { IsStampOf versions.now a.now a.now.value.version }
+{
+    match push_copy(rt, alloc, versions, first, 2) {
+        Ok(b) => are_two_stamps(versions, a, &b),
+        Err(_) => false,
     }
-    Ok(())
+}
+
+// Whether three copies of the first version and the opening's get the indices 0 to 3, and a copy of a stamp is the same stamp.
+fn are_stamped_in<'p>(
+    rt: &impl Wait,
+    alloc: Global,
+    versions: &Versions<'p>,
+    first: &Version<'p>,
+    opening: &Version<'p>,
+) -> bool {
+    for index in 0..3usize {
+        if push_and_read(rt, alloc, versions, first) != Ok((index, true)) {
+            return false;
+        }
+    }
+    match push_copy(rt, alloc, versions, opening, 1) {
+        Ok(a) => is_stamp_before(rt, alloc, versions, first, &a),
+        Err(_) => false,
+    }
 }
 
 // Whether 40 copies that are pushed are read again.
@@ -261,28 +312,80 @@ fn push_many<'p>(
     true
 }
 
-// Two threads push copies of two versions at once.
-fn push_at_once<R: Threads + Wait + Sync>(
+// Two threads push copies of two versions at once: whether both read them again.
+fn push_at_once<'p, R: Threads + Wait + Sync>(
     rt: &R,
     alloc: Global,
-    product: &Product,
-) -> Result<(bool, bool), AllocError> {
-    let versions = Versions::new(alloc)?;
-    let first = Version::first(alloc, product, 1)?;
-    let opening = Version::opening(alloc, product, 1)?;
-    Ok(thread::join(
+    versions: &Versions<'p>,
+    first: &Version<'p>,
+    opening: &Version<'p>,
+) -> bool {
+    thread::join(
         rt,
-        || push_many(rt, alloc, &versions, &first),
-        || push_many(rt, alloc, &versions, &opening),
-    ))
+        || push_many(rt, alloc, versions, first),
+        || push_many(rt, alloc, versions, opening),
+    ) == (true, true)
+}
+
+// What is asked of a list and two versions of a pair, the first and the opening's.
+#[derive(Clone, Copy)]
+enum Case {
+    AreStamped,
+    AtOnce,
+}
+
+fn holds_in<'p, R: Threads + Wait + Sync>(
+    rt: &R,
+    alloc: Global,
+    first: &Version<'p>,
+    opening: &Version<'p>,
+    case: Case,
+) -> bool {
+    match Versions::new(alloc) {
+        Ok(versions) => match case {
+            Case::AreStamped => are_stamped_in(rt, alloc, &versions, first, opening),
+            Case::AtOnce => push_at_once(rt, alloc, &versions, first, opening),
+        },
+        Err(_) => false,
+    }
+}
+
+fn holds_from<'p, R: Threads + Wait + Sync>(
+    rt: &R,
+    alloc: Global,
+    product: &'p Product,
+    first: &Version<'p>,
+    case: Case,
+) -> bool {
+    match Version::opening(alloc, product, 1) {
+        Ok(opening) => holds_in(rt, alloc, first, &opening, case),
+        Err(_) => false,
+    }
+}
+
+fn holds<R: Threads + Wait + Sync>(rt: &R, alloc: Global, product: &Product, case: Case) -> bool {
+    match Version::first(alloc, product, 1) {
+        Ok(first) => holds_from(rt, alloc, product, &first, case),
+        Err(_) => false,
+    }
+}
+
+// The same of two toggling latches.
+fn toggles_hold<R: Threads + Wait + Sync>(rt: &R, alloc: Global, case: Case) -> bool {
+    match pair_of(alloc, TOGGLE, TOGGLE) {
+        Ok(product) => holds(rt, alloc, &product, case),
+        Err(_) => false,
+    }
+}
+
+#[test]
+fn a_stamp_names_the_version_that_was_pushed(rt: HostRuntime) -> Result<(), Fail> {
+    assert!(rt; toggles_hold(&rt, rt.alloc(), Case::AreStamped));
+    Ok(())
 }
 
 #[test]
 fn threads_push_and_read_at_once(rt: HostRuntime) -> Result<(), Fail> {
-    let alloc = rt.alloc();
-    match pair_of(alloc, TOGGLE, TOGGLE) {
-        Ok(product) => assert!(rt; push_at_once(&rt, alloc, &product)? == (true, true)),
-        Err(_) => assert!(rt; false),
-    }
+    assert!(rt; toggles_hold(&rt, rt.alloc(), Case::AtOnce));
     Ok(())
 }

@@ -2,7 +2,7 @@
 use crate::runs::{
     DELAY, LOW, MASKED, RING, Row, Sinks, TOGGLE, answers_so, case, run_words, shelf_of,
 };
-use sec_base::FreeGate;
+use sec_base::{FreeGate, MemShelf};
 use std::alloc::{AllocError, Global};
 use std::sync::Wait;
 use std::test::Fail;
@@ -58,16 +58,38 @@ fn a_climb_over_files_with_a_fault_is_refused(rt: HostRuntime) -> Result<(), Fai
     Ok(())
 }
 
-// Whether a run returns a journal.
+// Whether a run over this shelf returns a journal.
+fn has_journal_on<R: Threads + Wait + Sync>(
+    rt: &R,
+    alloc: Global,
+    row: &Row,
+    shelf: &mut MemShelf,
+    sinks: &mut Sinks,
+) -> Result<bool, AllocError> {
+    match run_words(rt, alloc, row.words, shelf, sinks, &FreeGate) {
+        Ok(report) => Ok(report.journal.is_some()),
+        Err(e) => Err(e),
+    }
+}
+
+fn has_journal_from<R: Threads + Wait + Sync>(
+    rt: &R,
+    alloc: Global,
+    row: &Row,
+    shelf: &mut MemShelf,
+) -> Result<bool, AllocError> {
+    let mut sinks = Sinks::new(alloc, 400, Vec::new(alloc), Vec::new(alloc))?;
+    has_journal_on(rt, alloc, row, shelf, &mut sinks)
+}
+
+// Whether a run over a shelf of its own does.
 fn has_journal<R: Threads + Wait + Sync>(
     rt: &R,
     alloc: Global,
     row: &Row,
 ) -> Result<bool, AllocError> {
     let mut shelf = shelf_of(alloc, row, Vec::new(alloc))?;
-    let mut sinks = Sinks::new(alloc, 400, Vec::new(alloc), Vec::new(alloc))?;
-    let report = run_words(rt, alloc, row.words, &mut shelf, &mut sinks, &FreeGate)?;
-    Ok(report.journal.is_some())
+    has_journal_from(rt, alloc, row, &mut shelf)
 }
 
 #[test]

@@ -13,64 +13,81 @@ fn is_never_cut_short(bytes: &[u8]) -> Result<(), Failed>
     write_text(&mut sink, bytes)
 }
 
+// Whether a sink of five bytes whose second call fails takes texts so.
+fn is_cut_short(sink: &mut MemSink) -> bool {
+    write_text(sink, b"ab").is_ok()
+        && write_text(sink, b"cd").is_err()
+        && write_text(sink, b"cdef").is_err()
+        && sink.bytes() == b"abcde".as_slice()
+}
+
 #[test]
 fn a_text_is_cut_short_where_the_room_ends(rt: HostRuntime) -> Result<(), Fail> {
-    let alloc = rt.alloc();
-    let Ok(mut sink) = MemSink::with_room(alloc, 5, vec![in alloc; 1]?) else {
-        return Ok(());
-    };
-    assert!(rt; write_text(&mut sink, b"ab").is_ok());
-    assert!(rt; write_text(&mut sink, b"cd").is_err());
-    assert!(rt; write_text(&mut sink, b"cdef").is_err());
-    assert_eq!(rt; sink.bytes(), b"abcde".as_slice());
+    let fails = vec![in rt.alloc(); 1]?;
+    match MemSink::with_room(rt.alloc(), 5, fails) {
+        Ok(mut sink) => assert!(rt; is_cut_short(&mut sink)),
+        Err(_) => assert!(rt; false),
+    }
     assert!(rt; is_never_cut_short(b"abc").is_ok());
     Ok(())
 }
 
+// Whether numbers are written so.
+fn are_decimal(sink: &mut MemSink) -> bool {
+    const NUMBERS: &[u64] = &[0, 7, 10, 1000000, 18446744073709551615];
+    for &n in NUMBERS {
+        if write_number(sink, n).is_err() || write_text(sink, b" ").is_err() {
+            return false;
+        }
+    }
+    sink.bytes() == b"0 7 10 1000000 18446744073709551615 ".as_slice()
+}
+
 #[test]
 fn numbers_are_decimal(rt: HostRuntime) -> Result<(), Fail> {
-    let alloc = rt.alloc();
-    let Ok(mut sink) = MemSink::with_room(alloc, 64, Vec::new(alloc)) else {
-        return Ok(());
-    };
-    for n in [0, 7, 10, 1000000, 18446744073709551615u64] {
-        assert!(rt; write_number(&mut sink, n).is_ok());
-        assert!(rt; write_text(&mut sink, b" ").is_ok());
+    match MemSink::with_room(rt.alloc(), 64, Vec::new(rt.alloc())) {
+        Ok(mut sink) => assert!(rt; are_decimal(&mut sink)),
+        Err(_) => assert!(rt; false),
     }
-    assert_eq!(rt;
-        sink.bytes(),
-        b"0 7 10 1000000 18446744073709551615 ".as_slice()
-    );
     Ok(())
+}
+
+// Whether a shelf whose calls 0 and 4 fail does what it is told, over a file.
+fn fails_where_told(shelf: &mut MemShelf, file: &mut Vec<u8>) -> bool {
+    shelf.put("a", b"1234").is_ok()
+        && shelf.load("a", 9, file) == Err(LoadFault::Failed)
+        && shelf.load("a", 4, file) == Ok(())
+        && shelf.load("a", 3, file) == Err(LoadFault::TooLong)
+        && file.as_slice() == b"1234".as_slice()
+        && shelf.load("b", 9, file) == Err(LoadFault::Failed)
+        && shelf.store("b", b"4") == Err(StoreFault::Failed)
+        && shelf.store("b", b"5") == Ok(())
+        && shelf.get("b") == Some(b"5".as_slice())
 }
 
 #[test]
 fn a_shelf_fails_where_it_is_told(rt: HostRuntime) -> Result<(), Fail> {
-    let alloc = rt.alloc();
-    let mut shelf = MemShelf::new(alloc, vec![in alloc; 0, 4]?);
-    let mut file = Vec::new(alloc);
-    assert!(rt; shelf.put("a", b"1234").is_ok());
-    assert_eq!(rt; shelf.load("a", 9, &mut file), Err(LoadFault::Failed));
-    assert_eq!(rt; shelf.load("a", 4, &mut file), Ok(()));
-    assert_eq!(rt; shelf.load("a", 3, &mut file), Err(LoadFault::TooLong));
-    assert_eq!(rt; file.as_slice(), b"1234".as_slice());
-    assert_eq!(rt; shelf.load("b", 9, &mut file), Err(LoadFault::Failed));
-    assert_eq!(rt; shelf.store("b", b"4"), Err(StoreFault::Failed));
-    assert_eq!(rt; shelf.store("b", b"5"), Ok(()));
-    assert_eq!(rt; shelf.get("b"), Some(b"5".as_slice()));
+    let fails = vec![in rt.alloc(); 0, 4]?;
+    let mut shelf = MemShelf::new(rt.alloc(), fails);
+    let mut file = Vec::new(rt.alloc());
+    assert!(rt; fails_where_told(&mut shelf, &mut file));
     Ok(())
+}
+
+// Whether a sure shelf has every file, over one of a byte.
+fn has_every_file(shelf: &mut SureShelf, file: &mut Vec<u8>) -> bool {
+    shelf.load("a", 0, file) == Ok(())
+        && file.is_empty()
+        && shelf.put("a", b"1").is_ok()
+        && shelf.store("b", b"2") == Ok(())
+        && shelf.load("a", 0, file) == Err(LoadFault::TooLong)
 }
 
 #[test]
 fn a_sure_shelf_has_every_file(rt: HostRuntime) -> Result<(), Fail> {
-    let alloc = rt.alloc();
-    let mut shelf = SureShelf::new(alloc);
-    let mut file = vec![in alloc; 1u8]?;
-    assert_eq!(rt; shelf.load("a", 0, &mut file), Ok(()));
-    assert!(rt; file.is_empty());
-    assert!(rt; shelf.put("a", b"1").is_ok());
-    assert_eq!(rt; shelf.store("b", b"2"), Ok(()));
-    assert_eq!(rt; shelf.load("a", 0, &mut file), Err(LoadFault::TooLong));
+    let mut file = vec![in rt.alloc(); 1u8]?;
+    let mut shelf = SureShelf::new(rt.alloc());
+    assert!(rt; has_every_file(&mut shelf, &mut file));
     Ok(())
 }
 

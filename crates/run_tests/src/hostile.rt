@@ -2,9 +2,10 @@
 ghost use Rattle.std.specs.Prelude.{◌≤◌};
 
 use crate::runs::{Sinks, run_words};
+use aig_graph::Netlist;
 use aiger_codec::{write_binary_net, write_text_net};
 use demo_pair::make_demo;
-use sec_base::{FreeGate, MemShelf, MemSink};
+use sec_base::{FreeGate, MemShelf};
 use std::alloc::{AllocError, Global};
 use std::sync::Wait;
 use std::test::Fail;
@@ -53,24 +54,54 @@ fn shelf_of(alloc: Global, row: &Row) -> Result<MemShelf, AllocError> {
     Ok(shelf)
 }
 
-// Whether a run ends as the row says.
-fn ends_so<R: Threads + Wait + Sync>(rt: &R, alloc: Global, row: &Row) -> Result<bool, AllocError> {
-    let mut shelf = shelf_of(alloc, row)?;
-    let mut sinks = Sinks::new(alloc, row.room, Vec::new(alloc), Vec::new(alloc))?;
-    let report = run_words(rt, alloc, row.words, &mut shelf, &mut sinks, &FreeGate)?;
-    Ok(report.status == row.status && sinks.hold(row.out, row.err))
-}
-
-// How a run over a shelf ends, and what it prints.
-fn printed<R: Threads + Wait + Sync>(
+// How a run into these sinks ends.
+fn status_of<R: Threads + Wait + Sync>(
     rt: &R,
     alloc: Global,
     words: &str,
     shelf: &mut MemShelf,
-) -> Result<(u8, MemSink), AllocError> {
+    sinks: &mut Sinks,
+) -> Result<u8, AllocError> {
+    match run_words(rt, alloc, words, shelf, sinks, &FreeGate) {
+        Ok(report) => Ok(report.status),
+        Err(e) => Err(e),
+    }
+}
+
+// Whether a run over this shelf ends as the row says.
+fn ends_on<R: Threads + Wait + Sync>(
+    rt: &R,
+    alloc: Global,
+    row: &Row,
+    shelf: &mut MemShelf,
+) -> Result<bool, AllocError> {
+    let mut sinks = Sinks::new(alloc, row.room, Vec::new(alloc), Vec::new(alloc))?;
+    Ok(
+        status_of(rt, alloc, row.words, shelf, &mut sinks) == Ok(row.status)
+            && sinks.hold(row.out, row.err),
+    )
+}
+
+// Whether a run ends as the row says.
+fn ends_so<R: Threads + Wait + Sync>(rt: &R, alloc: Global, row: &Row) -> Result<bool, AllocError> {
+    let mut shelf = shelf_of(alloc, row)?;
+    ends_on(rt, alloc, row, &mut shelf)
+}
+
+// Whether a run over a shelf ends with a status, and what it prints is the end of a text.
+fn prints_end<R: Threads + Wait + Sync>(
+    rt: &R,
+    alloc: Global,
+    words: &str,
+    shelf: &mut MemShelf,
+    status: u8,
+    text: &[u8],
+) -> Result<bool, AllocError> {
     let mut sinks = Sinks::new(alloc, 400, Vec::new(alloc), Vec::new(alloc))?;
-    let report = run_words(rt, alloc, words, shelf, &mut sinks, &FreeGate)?;
-    Ok((report.status, sinks.out))
+    Ok(
+        status_of(rt, alloc, words, shelf, &mut sinks) == Ok(status)
+            && text.ends_with(sinks.out.bytes()),
+    )
 }
 
 fn answered(
@@ -224,22 +255,36 @@ fn devices_that_fail_are_told(rt: HostRuntime) -> Result<(), Fail> {
     Ok(())
 }
 
-// Whether an output that takes so many bytes has the front of the text, and the trace stands.
+// Whether an output that takes so many bytes has the front of the text.
+fn is_cut_on<R: Threads + Wait + Sync>(
+    rt: &R,
+    alloc: Global,
+    words: &str,
+    shelf: &mut MemShelf,
+    room: usize,
+) -> Result<bool, AllocError> {
+    let mut sinks = Sinks::new(alloc, room, Vec::new(alloc), Vec::new(alloc))?;
+    Ok(
+        status_of(rt, alloc, words, shelf, &mut sinks) == Ok(6)
+            && Some(sinks.out.bytes()) == DIFFERENT.as_bytes().get(..room)
+            && sinks.err.bytes() == b"sec: output: write failed\n".as_slice(),
+    )
+}
+
+// Whether it has, and the trace stands.
 fn is_cut_at<R: Threads + Wait + Sync>(
     rt: &R,
     alloc: Global,
     room: usize,
 ) -> Result<bool, AllocError> {
-    let words = "sec check left right -k 2 --trace made";
-    let mut shelf = shelf_of(alloc, &failed(words, LOW, u64::MAX, room, 6, ""))?;
-    let mut sinks = Sinks::new(alloc, room, Vec::new(alloc), Vec::new(alloc))?;
-    let report = run_words(rt, alloc, words, &mut shelf, &mut sinks, &FreeGate)?;
-    Ok(
-        report.status == 6
-            && Some(sinks.out.bytes()) == DIFFERENT.as_bytes().get(..room)
-            && sinks.err.bytes() == b"sec: output: write failed\n".as_slice()
-            && shelf.get("made") == Some(TRACE),
-    )
+    const WORDS: &str = "sec check left right -k 2 --trace made";
+    match shelf_of(alloc, &failed(WORDS, LOW, u64::MAX, room, 6, "")) {
+        Ok(mut shelf) => Ok(
+            is_cut_on(rt, alloc, WORDS, &mut shelf, room) == Ok(true)
+                && shelf.get("made") == Some(TRACE),
+        ),
+        Err(e) => Err(e),
+    }
 }
 
 #[test]
@@ -251,6 +296,28 @@ fn an_output_takes_the_front_of_the_text(rt: HostRuntime) -> Result<(), Fail> {
     Ok(())
 }
 
+// Whether a run over this shelf ends with status 0.
+fn ends_well<R: Threads + Wait + Sync>(
+    rt: &R,
+    alloc: Global,
+    words: &str,
+    shelf: &mut MemShelf,
+) -> Result<bool, AllocError> {
+    let mut sinks = Sinks::new(alloc, 400, Vec::new(alloc), Vec::new(alloc))?;
+    Ok(status_of(rt, alloc, words, shelf, &mut sinks) == Ok(0))
+}
+
+// Whether the certificate on this shelf is verified.
+fn verifies<R: Threads + Wait + Sync>(
+    rt: &R,
+    alloc: Global,
+    shelf: &mut MemShelf,
+) -> Result<bool, AllocError> {
+    let mut sinks = Sinks::new(alloc, 400, Vec::new(alloc), Vec::new(alloc))?;
+    let status = status_of(rt, alloc, "sec verify left right made", shelf, &mut sinks);
+    Ok(status.is_ok() && sinks.out.bytes() == b"verified\n".as_slice())
+}
+
 // Whether a certificate is stored by these words and verified.
 fn is_verified<R: Threads + Wait + Sync>(
     rt: &R,
@@ -258,11 +325,14 @@ fn is_verified<R: Threads + Wait + Sync>(
     words: &'static str,
     left: &'static [u8],
     right: &'static [u8],
-) -> Result<bool, AllocError> {
-    let mut shelf = shelf_of(alloc, &answered(words, left, right, 0, ""))?;
-    let (stored, _) = printed(rt, alloc, words, &mut shelf)?;
-    let (_, read) = printed(rt, alloc, "sec verify left right made", &mut shelf)?;
-    Ok(stored == 0 && read.bytes() == b"verified\n".as_slice())
+) -> bool {
+    match shelf_of(alloc, &answered(words, left, right, 0, "")) {
+        Ok(mut shelf) => {
+            ends_well(rt, alloc, words, &mut shelf) == Ok(true)
+                && verifies(rt, alloc, &mut shelf) == Ok(true)
+        }
+        Err(_) => false,
+    }
 }
 
 #[test]
@@ -274,33 +344,56 @@ fn certificates_of_sixteen_frames_are_verified(rt: HostRuntime) -> Result<(), Fa
         (LOW, RING),
         (PRODUCT_OF_LATCHES, LATCH_OF_PRODUCT),
     ] {
-        assert!(rt; is_verified(&rt, alloc, words, left, right)?);
+        assert!(rt; is_verified(&rt, alloc, words, left, right));
     }
     Ok(())
 }
 
-// A shelf with a demo pair's netlists, the left one in the binary form, the right one as text.
-fn demo_shelf(alloc: Global, n: u32) -> Result<MemShelf, AllocError>
+// The files of a demo pair's netlists, the left one in the binary form, the right one as text.
+fn put_right(alloc: Global, shelf: &mut MemShelf, net: &Netlist) -> bool {
+    match write_text_net(alloc, net) {
+        Ok(bytes) => shelf.put("right", &bytes).is_ok(),
+        Err(_) => false,
+    }
+}
+
+fn put_left(alloc: Global, shelf: &mut MemShelf, net: &Netlist) -> bool {
+    match write_binary_net(alloc, net) {
+        Ok(bytes) => shelf.put("left", &bytes).is_ok(),
+        Err(_) => false,
+    }
+}
+
+// Whether both were put on a shelf.
+fn are_put(alloc: Global, shelf: &mut MemShelf, n: u32) -> bool
     requires { n ≤ 100000 }
 {
-    let (left, right) = make_demo(alloc, n)?;
-    let mut shelf = MemShelf::new(alloc, Vec::new(alloc));
-    let left = write_binary_net(alloc, &left)?;
-    let right = write_text_net(alloc, &right)?;
-    if shelf.put("left", &left).is_err() || shelf.put("right", &right).is_err() {
-        return Err(AllocError);
+    match make_demo(alloc, n) {
+        Ok((left, right)) => put_left(alloc, shelf, &left) && put_right(alloc, shelf, &right),
+        Err(_) => false,
     }
-    Ok(shelf)
+}
+
+// Whether a check of the files of a hundred inputs ends well and prints the end of a text.
+fn files_print_end<R: Threads + Wait + Sync>(rt: &R, alloc: Global, text: &[u8]) -> bool {
+    let mut shelf = MemShelf::new(alloc, Vec::new(alloc));
+    are_put(alloc, &mut shelf, 100)
+        && prints_end(rt, alloc, "sec check left right", &mut shelf, 0, text) == Ok(true)
+}
+
+// Whether it prints the end of what the demo of this size prints.
+fn files_print_as_demo<R: Threads + Wait + Sync>(rt: &R, alloc: Global, sinks: &mut Sinks) -> bool {
+    let mut none = MemShelf::new(alloc, Vec::new(alloc));
+    status_of(rt, alloc, "sec demo 100", &mut none, sinks).is_ok()
+        && files_print_end(rt, alloc, sinks.out.bytes())
 }
 
 #[test]
 fn files_of_a_hundred_inputs_are_answered_as_their_pair_is(rt: HostRuntime) -> Result<(), Fail> {
     let alloc = rt.alloc();
-    let mut none = MemShelf::new(alloc, Vec::new(alloc));
-    let (_, made) = printed(&rt, alloc, "sec demo 100", &mut none)?;
-    let mut files = demo_shelf(alloc, 100)?;
-    let (status, read) = printed(&rt, alloc, "sec check left right", &mut files)?;
-    assert_eq!(rt; status, 0);
-    assert!(rt; made.bytes().ends_with(read.bytes()));
+    match Sinks::new(alloc, 400, Vec::new(alloc), Vec::new(alloc)) {
+        Ok(mut sinks) => assert!(rt; files_print_as_demo(&rt, alloc, &mut sinks)),
+        Err(_) => assert!(rt; false),
+    }
     Ok(())
 }

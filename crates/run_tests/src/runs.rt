@@ -106,16 +106,18 @@ pub(crate) fn run_words<R: Threads + Wait + Sync, G: Gate>(
     sinks: &mut Sinks,
     gate: &G,
 ) -> Result<Report, AllocError> {
-    let words = words_of(alloc, words)?;
-    Ok(run(
-        rt,
-        alloc,
-        &words,
-        shelf,
-        &mut sinks.out,
-        &mut sinks.err,
-        gate,
-    ))
+    match words_of(alloc, words) {
+        Ok(words) => Ok(run(
+            rt,
+            alloc,
+            &words,
+            shelf,
+            &mut sinks.out,
+            &mut sinks.err,
+            gate,
+        )),
+        Err(e) => Err(e),
+    }
 }
 
 // Whether a run over these devices ends as the row has it.
@@ -127,8 +129,11 @@ pub(crate) fn ends_so<R: Threads + Wait + Sync, G: Gate>(
     sinks: &mut Sinks,
     gate: &G,
 ) -> Result<bool, AllocError> {
-    let report = run_words(rt, alloc, row.words, shelf, sinks, gate)?;
-    Ok(report.status == row.status && sinks.hold(row.out, row.err))
+    let status = match run_words(rt, alloc, row.words, shelf, sinks, gate) {
+        Ok(report) => report.status,
+        Err(e) => return Err(e),
+    };
+    Ok(status == row.status && sinks.hold(row.out, row.err))
 }
 
 // Whether a run over this shelf answers as the row has it.
@@ -159,7 +164,8 @@ pub(crate) fn answers_without<R: Threads + Wait + Sync>(
     row: &Row,
     call: u64,
 ) -> Result<bool, AllocError> {
-    let mut shelf = shelf_of(alloc, row, vec![in alloc; call]?)?;
+    let fails = vec![in alloc; call]?;
+    let mut shelf = shelf_of(alloc, row, fails)?;
     answers_on(rt, alloc, row, &mut shelf)
 }
 
@@ -172,9 +178,13 @@ fn leaves_past<R: Threads + Wait + Sync>(
     name: &str,
     file: Option<&[u8]>,
 ) -> Result<bool, AllocError> {
-    let mut shelf = shelf_of(alloc, row, Vec::new(alloc))?;
-    let so = ends_so(rt, alloc, row, &mut shelf, sinks, &FreeGate)?;
-    Ok(so && shelf.get(name) == file)
+    match shelf_of(alloc, row, Vec::new(alloc)) {
+        Ok(mut shelf) => Ok(
+            ends_so(rt, alloc, row, &mut shelf, sinks, &FreeGate) == Ok(true)
+                && shelf.get(name) == file,
+        ),
+        Err(e) => Err(e),
+    }
 }
 
 // Whether a run of which no call fails leaves this file.
@@ -197,7 +207,8 @@ pub(crate) fn leaves_unprinted<R: Threads + Wait + Sync>(
     name: &str,
     file: &[u8],
 ) -> Result<bool, AllocError> {
-    let mut sinks = Sinks::new(alloc, 400, vec![in alloc; 0]?, Vec::new(alloc))?;
+    let fails = vec![in alloc; 0]?;
+    let mut sinks = Sinks::new(alloc, 400, fails, Vec::new(alloc))?;
     leaves_past(rt, alloc, row, &mut sinks, name, Some(file))
 }
 
@@ -590,7 +601,18 @@ fn any_number_of_workers_tells_the_same(rt: HostRuntime) -> Result<(), Fail> {
     Ok(())
 }
 
-// Whether a run whose workers are held at a gate ends so.
+// Whether a run over this shelf whose workers are held at a gate ends so.
+fn answers_on_at<R: Threads + Wait + Sync, G: Gate>(
+    rt: &R,
+    alloc: Global,
+    row: &Row,
+    shelf: &mut MemShelf,
+    gate: &G,
+) -> Result<bool, AllocError> {
+    let mut sinks = Sinks::new(alloc, 400, Vec::new(alloc), Vec::new(alloc))?;
+    ends_so(rt, alloc, row, shelf, &mut sinks, gate)
+}
+
 fn answers_at<R: Threads + Wait + Sync, G: Gate>(
     rt: &R,
     alloc: Global,
@@ -598,8 +620,7 @@ fn answers_at<R: Threads + Wait + Sync, G: Gate>(
     gate: &G,
 ) -> Result<bool, AllocError> {
     let mut shelf = shelf_of(alloc, row, Vec::new(alloc))?;
-    let mut sinks = Sinks::new(alloc, 400, Vec::new(alloc), Vec::new(alloc))?;
-    ends_so(rt, alloc, row, &mut shelf, &mut sinks, gate)
+    answers_on_at(rt, alloc, row, &mut shelf, gate)
 }
 
 #[test]
@@ -683,15 +704,12 @@ fn a_trace_is_stored_before_it_is_printed(rt: HostRuntime) -> Result<(), Fail> {
 
 // The pair of two texts.
 fn pair_of(alloc: Global, left: &str, right: &str) -> Option<Product> {
-    let Ok(first) = read_netlist(alloc, left.as_bytes()) else {
-        return None;
-    };
-    let Ok(second) = read_netlist(alloc, right.as_bytes()) else {
-        return None;
-    };
-    match Product::new(alloc, first, second) {
-        Ok(product) => Some(product),
-        Err(_) => None,
+    match (
+        read_netlist(alloc, left.as_bytes()),
+        read_netlist(alloc, right.as_bytes()),
+    ) {
+        (Ok(left), Ok(right)) => Product::new(alloc, left, right).ok(),
+        _ => None,
     }
 }
 
@@ -708,17 +726,31 @@ fn are_same(a: &Classes, b: &Classes) -> bool {
     true
 }
 
-// Whether the classes that the solver finds for k = 1 are those found by trying all paths.
-fn agrees_with_plain(alloc: Global, left: &str, right: &str) -> Result<bool, AllocError> {
-    let Some(product) = pair_of(alloc, left, right) else {
-        return Ok(false);
+// Whether the classes that the solver finds for k = 1 are these.
+fn agrees_with(alloc: Global, product: &Product, plain: &Classes) -> bool {
+    match greatest_classes(alloc, product, 1) {
+        Ok(version) => are_same(plain, version.classes()),
+        Err(_) => false,
+    }
+}
+
+// Whether they are those found by trying all paths.
+fn agrees_with_plain(alloc: Global, product: &Product) -> bool {
+    let Some(bits) = few_free_bits(product) else {
+        return false;
     };
-    let Some(bits) = few_free_bits(&product) else {
-        return Ok(false);
-    };
-    let plain = plain_classes(alloc, &product, bits)?;
-    let version = greatest_classes(alloc, &product, 1)?;
-    Ok(are_same(&plain, version.classes()))
+    match plain_classes(alloc, product, bits) {
+        Ok(plain) => agrees_with(alloc, product, &plain),
+        Err(_) => false,
+    }
+}
+
+// The same of two netlists.
+fn netlists_agree_with_plain(alloc: Global, left: &str, right: &str) -> bool {
+    match pair_of(alloc, left, right) {
+        Some(product) => agrees_with_plain(alloc, &product),
+        None => false,
+    }
 }
 
 #[test]
@@ -738,9 +770,8 @@ fn the_solver_finds_the_classes_of_all_paths(rt: HostRuntime) -> Result<(), Fail
         (AND, RETIMED),
         (RETIMED, RETIMED),
     ];
-    let alloc = rt.alloc();
     for &(left, right) in PAIRS {
-        assert!(rt; agrees_with_plain(alloc, left, right)?);
+        assert!(rt; netlists_agree_with_plain(rt.alloc(), left, right));
     }
     Ok(())
 }
@@ -1041,6 +1072,16 @@ fn traces_with_a_fault_are_refused(rt: HostRuntime) -> Result<(), Fail> {
     Ok(())
 }
 
+// Whether a run into a sink of ten bytes ends as the row has it and leaves the stored trace.
+fn leaves_cut<R: Threads + Wait + Sync>(
+    rt: &R,
+    alloc: Global,
+    row: &Row,
+) -> Result<bool, AllocError> {
+    let mut sinks = Sinks::new(alloc, 10, Vec::new(alloc), Vec::new(alloc))?;
+    leaves_past(rt, alloc, row, &mut sinks, "made", Some(STORED.as_bytes()))
+}
+
 #[test]
 fn an_output_with_little_room_takes_a_part(rt: HostRuntime) -> Result<(), Fail> {
     let alloc = rt.alloc();
@@ -1053,32 +1094,35 @@ fn an_output_with_little_room_takes_a_part(rt: HostRuntime) -> Result<(), Fail> 
         "different ",
         "sec: output: write failed\n",
     );
-    let mut sinks = Sinks::new(alloc, 10, Vec::new(alloc), Vec::new(alloc))?;
-    assert!(rt;
-        leaves_past(
-            &rt,
-            alloc,
-            &cut,
-            &mut sinks,
-            "made",
-            Some(STORED.as_bytes())
-        )?
-    );
+    assert!(rt; leaves_cut(&rt, alloc, &cut)?);
     let second = case(words, TOGGLE, LOW, 5, "", "sec: right: read failed\n");
     assert!(rt; answers_without(&rt, alloc, &second, 1)?);
     Ok(())
 }
 
-// Whether a run whose first file isn't read ends as the row has it, where a call of the error sink fails too.
+// Whether a run over this shelf ends as the row has it, where a call of the error sink fails.
+fn tells_on<R: Threads + Wait + Sync>(
+    rt: &R,
+    alloc: Global,
+    row: &Row,
+    shelf: &mut MemShelf,
+    call: u64,
+) -> Result<bool, AllocError> {
+    let fails = vec![in alloc; call]?;
+    let mut sinks = Sinks::new(alloc, 400, Vec::new(alloc), fails)?;
+    ends_so(rt, alloc, row, shelf, &mut sinks, &FreeGate)
+}
+
+// The same where the first file isn't read either.
 fn tells_without<R: Threads + Wait + Sync>(
     rt: &R,
     alloc: Global,
     row: &Row,
     call: u64,
 ) -> Result<bool, AllocError> {
-    let mut shelf = shelf_of(alloc, row, vec![in alloc; 0]?)?;
-    let mut sinks = Sinks::new(alloc, 400, Vec::new(alloc), vec![in alloc; call]?)?;
-    ends_so(rt, alloc, row, &mut shelf, &mut sinks, &FreeGate)
+    let fails = vec![in alloc; 0]?;
+    let mut shelf = shelf_of(alloc, row, fails)?;
+    tells_on(rt, alloc, row, &mut shelf, call)
 }
 
 #[test]
@@ -1093,14 +1137,22 @@ fn an_error_sink_that_fails_takes_a_part(rt: HostRuntime) -> Result<(), Fail> {
     Ok(())
 }
 
+// Whether a check over this shelf is answered.
+fn is_answered_on<R: Threads + Wait + Sync>(rt: &R, alloc: Global, shelf: &mut SureShelf) -> bool {
+    match words_of(alloc, "sec check left left") {
+        Ok(words) => run_over_sure_devices(rt, alloc, &words, shelf).status == 0,
+        Err(_) => false,
+    }
+}
+
+fn is_answered_surely<R: Threads + Wait + Sync>(rt: &R, alloc: Global) -> bool {
+    let mut shelf = SureShelf::new(alloc);
+    shelf.put("left", TOGGLE.as_bytes()).is_ok() && is_answered_on(rt, alloc, &mut shelf)
+}
+
 #[test]
 fn sure_devices_are_answered(rt: HostRuntime) -> Result<(), Fail> {
-    let alloc = rt.alloc();
-    let mut shelf = SureShelf::new(alloc);
-    if shelf.put("left", TOGGLE.as_bytes()).is_ok() {
-        let words = words_of(alloc, "sec check left left")?;
-        assert!(rt; run_over_sure_devices(&rt, alloc, &words, &mut shelf).status == 0);
-    }
+    assert!(rt; is_answered_surely(&rt, rt.alloc()));
     Ok(())
 }
 
@@ -1182,8 +1234,13 @@ fn stores_what_verifies<R: Threads + Wait + Sync>(
     made: &Row,
     verified: &Row,
 ) -> Result<bool, AllocError> {
-    let mut shelf = shelf_of(alloc, made, Vec::new(alloc))?;
-    Ok(answers_on(rt, alloc, made, &mut shelf)? && answers_on(rt, alloc, verified, &mut shelf)?)
+    match shelf_of(alloc, made, Vec::new(alloc)) {
+        Ok(mut shelf) => Ok(
+            answers_on(rt, alloc, made, &mut shelf) == Ok(true)
+                && answers_on(rt, alloc, verified, &mut shelf) == Ok(true),
+        ),
+        Err(e) => Err(e),
+    }
 }
 
 #[test]

@@ -1,5 +1,5 @@
 use Rattle.refine_board.specs.Schedules.{opened}
-use Rattle.board_tests.proofs.boards.played.Given as goal
+use Rattle.board_tests.proofs.boards.played_with.Given as goal
 
 abbrev pub ghosts-play_from-L-Ledger : goal.ghosts-play_from-L-Ledger
 ghosts-play_from-L-Ledger g a = record { name = a.blank.name; parts = a.blank.parts }
