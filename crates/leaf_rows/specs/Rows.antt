@@ -1,6 +1,6 @@
 -- Rows of a frame, and the bits of their leaves: the inputs and latches, by which the gates are determined. (Van Eijk, IEEE TCAD
 -- 19(7), 2000: the signals of a product machine are functions of its inputs and its state.)
-use Rattle.std.specs.Prelude.{◌≡◌, ℕ, ◌+◌, List, [], ◌∷◌, ◌++◌, length, drop, count_by, Bool, false, true, ◌&&◌, if◌then◌else◌}
+use Rattle.std.specs.Prelude.{◌≡◌, ℕ, ◌+◌, List, [], ◌∷◌, ◌++◌, length, drop, map, count_by, Bool, false, true, ◌&&◌, if◌then◌else◌}
 use Rattle.circ_model.specs.Meaning.{bit, literal_value}
 use Rattle.product_machine.specs.declared.cell.Cell.{Cell}
 use Rattle.product_machine.specs.declared.cell.Cell.TheVariants.{Low, Given, Held, Product}
@@ -16,13 +16,14 @@ is_leaf (Product a b) = false
 abbrev pub leaf_count : List Cell → ℕ
 leaf_count cs = count_by is_leaf cs
 
--- the bits of the leaves in the order of their places, where the first cell stands at place p
-unfoldable pub leaves_from : ℕ → List Cell → List Bool → List Bool
-leaves_from p [] row = []
-leaves_from p (c ∷ cs) row = if is_leaf c then bit row p ∷ leaves_from (p + 1) cs row else leaves_from (p + 1) cs row
+-- the places of the leaves, where the first cell stands at place p
+unfoldable pub leaf_places : ℕ → List Cell → List ℕ
+leaf_places p [] = []
+leaf_places p (c ∷ cs) = if is_leaf c then p ∷ leaf_places (p + 1) cs else leaf_places (p + 1) cs
 
+-- the bits of a row's leaves in the order of their places
 abbrev pub leaves_in : List Cell → List Bool → List Bool
-leaves_in cs row = leaves_from 0 cs row
+leaves_in cs row = map (bit row) (leaf_places 0 cs)
 
 -- a row obeys a cell at its place, and a leaf has either bit
 abbrev pub ObeysAt : List Bool → ℕ → Cell → Type 0

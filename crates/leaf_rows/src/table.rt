@@ -1,7 +1,7 @@
 //! A table of what stands at each place of a pair, with which rows are packed to the bits of their leaves and made from them.
 ghost use Rattle.std.specs.Prelude.{◌≡◌, ◌<◌, ◌≤◌, IfOk, IsTrue, length};
 ghost use Rattle.circ_model.specs.Meaning.{bit};
-ghost use Rattle.leaf_rows.specs.Rows.{cell_value, is_leaf, leaf_count, leaves_in, row_by, IsRowOf};
+ghost use Rattle.leaf_rows.specs.Rows.{cell_value, is_leaf, leaf_count, leaf_places, leaves_in, row_by, IsRowOf};
 ghost use Rattle.product_machine.specs.Cells.{cells, Rests};
 
 use aig_graph::literal_bit;
@@ -15,12 +15,12 @@ use std::marker::Model;
 #[derive(Drop)]
 pub struct LeafTable {
     cells: Vec<Cell>,
-    leaves: u32,
+    places: Vec<u32>,
 }
 
 impl Model for LeafTable {
     ghost use Rattle.std.specs.Prelude.{◌≡◌, ◌≤◌, List, length};
-    ghost use Rattle.leaf_rows.specs.Rows.{leaf_count};
+    ghost use Rattle.leaf_rows.specs.Rows.{leaf_places};
     ghost use Rattle.product_machine.specs.declared.cell.Cell.{Cell};
     ghost use Rattle.product_machine.specs.Cells.{IsArranged};
 
@@ -28,7 +28,7 @@ impl Model for LeafTable {
 
     ghost view = { λ t. t.cells.items };
 
-    ghost invariant = { λ t. IsArranged t.cells.items × (t.leaves ≡ leaf_count t.cells.items) × (length t.cells.items ≤ 2000001) };
+    ghost invariant = { λ t. IsArranged t.cells.items × (t.places.items ≡ leaf_places 0 t.cells.items) × (length t.cells.items ≤ 2000001) };
 }
 
 // Whether a cell is an input or a latch.
@@ -41,18 +41,18 @@ fn is_leaf(cell: &Cell) -> bool
     }
 }
 
-// How many of these are leaves.
-fn count_leaves(cells: &[Cell]) -> u32
+// The places of the leaves among these cells.
+fn find_leaves(alloc: Global, cells: &[Cell]) -> Result<Vec<u32>, AllocError>
     requires { length cells.now ≤ 2000001 }
-    ensures { result ≡ leaf_count cells.now }
+    ensures { IfOk result (λ ps. ps.items ≡ leaf_places 0 cells.now) }
 {
-    let mut count = 0;
-    for cell in cells {
-        if is_leaf(cell) {
-            count += 1;
+    let mut places = Vec::new(alloc);
+    for p in 0..cells.len() as u32 {
+        if is_leaf(&cells[p as usize]) {
+            places.push(p)?;
         }
     }
-    count
+    Ok(places)
 }
 
 // The bit of a cell: a leaf's is bit `at` of the leaves, and a gate's comes from the row so far.
@@ -75,15 +75,15 @@ impl LeafTable {
     {
         let _places = product.len();
         let cells = Vec::from_slice(alloc, product.cells())?;
-        let leaves = count_leaves(cells.as_slice());
-        Ok(LeafTable { cells, leaves })
+        let places = find_leaves(alloc, cells.as_slice())?;
+        Ok(LeafTable { cells, places })
     }
 
     /// How many leaves a row has.
     pub fn leaves(&self) -> u32
         ensures { result ≡ leaf_count self.now }
     {
-        self.leaves
+        self.places.len() as u32
     }
 
     /// How many places a row has.
@@ -102,12 +102,8 @@ impl LeafTable {
         ensures size { length leaves.new ≡ leaf_count self.now }
         ensures row { IsRowOf self.now row.now → row_by self.now leaves.new ≡ row.now }
     {
-        let mut at = 0;
-        for p in 0..self.len() {
-            if is_leaf(&self.cells[p as usize]) {
-                leaves.set(at, row.get(p));
-                at += 1;
-            }
+        for at in 0..self.leaves() {
+            leaves.set(at, row.get(self.places[at as usize]));
         }
     }
 

@@ -1,43 +1,44 @@
-use Rattle.std.proofs.Common.{◌≡◌, ◌∙◌, ◌<◌, ◌+◌, ℕ, List, Bool, length, ap, sym, subst, arith, set}
-use Rattle.leaf_rows.proofs.Leaves.{ArePacked, leaf_before, packed_all, packed_leaf, packed_none, packed_other}
+use Rattle.std.proofs.Common.{◌≡◌, ◌∙◌, ◌<◌, ◌+◌, List, length, ap, sym, subst, arith, set, refl}
+use Rattle.leaf_rows.proofs.Leaves.{ArePacked, length_places, packed_all, packed_more, place_inside, place_read}
 use Rattle.leaf_rows.proofs.Rows.{only_row}
-use Rattle.leaf_rows.specs.Rows.{is_leaf, leaves_in, row_by}
+use Rattle.leaf_rows.specs.Rows.{leaf_count, leaves_in, row_by}
 use Rattle.product_machine.specs.Cells.{IsArranged}
-use Rattle.product_machine.proofs.TableRead.{cell_read}
 use Rattle.product_machine.specs.declared.cell.Cell.{Cell}
-use Rattle.leaf_rows.proofs.table.LeafTable.pack.Goals.{then-is_leaf, else-is_leaf}
 use Rattle.leaf_rows.proofs.table.LeafTable.pack.Goals as goal
 
-pub loop-p-init : goal.loop-p-init
-loop-p-init c = packed_none c.args.self.now c.args.row.now c.args.leaves.now c.requires.leaves
+pub loop-at-init : goal.loop-at-init
+loop-at-init c = record { size = c.requires.leaves; done = refl }
 
-pub set-requires : goal.set-requires
-set-requires c =
-    let test = c.loop-p-test.true in
-    let lt : c.loop-p.p < length c.args.self.now = omega (arith, c.len-p-end.ensures) in
-    let read = cell_read c.self.inside.cells.items c.args.self.now c.loop-p.p c.index.result.now c.self.view_is lt c.index.ensures in
-    omega (arith, c.loop-p.invariant.size, c.loop-p.invariant.count, leaf_before c.args.self.now c.loop-p.p lt (ap is_leaf read ∙ sym c.if-is_leaf.ensures))
+pub index-requires : goal.index-requires
+index-requires c =
+    let test = c.loop-at-test.true in
+    omega (arith, ap length c.self.invariant.1, length_places 0 c.self.inside.cells.items, ap leaf_count c.self.view_is, c.leaves-at-end.ensures)
 
-pub loop-p-preserved : goal.loop-p-preserved
-loop-p-preserved c =
+pub get-requires : goal.get-requires
+get-requires c =
     let cs : List Cell = c.args.self.now in
-    let row : List Bool = c.args.row.now in
-    let test = c.loop-p-test.true in
-    let lt : c.loop-p.p < length cs = omega (arith, c.len-p-end.ensures) in
-    let read = cell_read c.self.inside.cells.items cs c.loop-p.p c.index.result.now c.self.view_is lt c.index.ensures in
-    let to = λ (at : ℕ) (leaves : List Bool). ArePacked cs row (c.loop-p.p + 1) at leaves in
-    elim c.if-is_leaf.branch [
-      | then-is_leaf w ↦ subst (λ (n : ℕ). to n c.if-is_leaf.leaves) (sym w.at-is)
-          (subst (to (c.loop-p.at + 1)) (sym (w.leaves-is ∙ w.set.ensures ∙ ap (set c.loop-p.leaves c.loop-p.at) w.get.ensures))
-          (packed_leaf cs row c.loop-p.p c.loop-p.at c.loop-p.leaves lt (ap is_leaf read ∙ sym w.if-is_leaf.ensures) c.loop-p.invariant))
-      | else-is_leaf w ↦ subst (λ (n : ℕ). to n c.if-is_leaf.leaves) (sym w.at-is)
-          (subst (to c.loop-p.at) (sym w.leaves-is)
-          (packed_other cs row c.loop-p.p c.loop-p.at c.loop-p.leaves lt (ap is_leaf read ∙ sym w.if-is_leaf.ensures) c.loop-p.invariant))
-    ]
+    let test = c.loop-at-test.true in
+    let lt : c.loop-at.at < leaf_count cs = omega (arith, c.leaves-at-end.ensures) in
+    let read = place_read c.self.inside.places.items c.self.inside.cells.items cs c.loop-at.at c.index.result.now c.self.invariant.1 c.self.view_is lt c.index.ensures in
+    omega (arith, place_inside cs c.loop-at.at c.index.result.now lt read, c.requires.row)
+
+pub loop-at-preserved : goal.loop-at-preserved
+loop-at-preserved c =
+    let cs : List Cell = c.args.self.now in
+    let test = c.loop-at-test.true in
+    let lt : c.loop-at.at < leaf_count cs = omega (arith, c.leaves-at-end.ensures) in
+    let read = place_read c.self.inside.places.items c.self.inside.cells.items cs c.loop-at.at c.index.result.now c.self.invariant.1 c.self.view_is lt c.index.ensures in
+    subst (ArePacked cs c.args.row.now (c.loop-at.at + 1)) (sym (c.set.ensures ∙ ap (set c.loop-at.leaves c.loop-at.at) c.get.ensures))
+    (packed_more cs c.args.row.now c.loop-at.at c.index.result.now c.loop-at.leaves lt read c.loop-at.invariant)
 
 -- what is packed is the row's leaves
-packed : (c : goal.After-loop-p) → c.loop-p.leaves ≡ leaves_in c.args.self.now c.args.row.now
-packed c = packed_all c.args.self.now c.args.row.now c.loop-p.p c.loop-p.at c.loop-p.leaves (omega (arith, c.loop-p-test.false, c.len-p-end.ensures)) c.loop-p.invariant
+packed : (c : goal.After-loop-at) → c.loop-at.leaves ≡ leaves_in c.args.self.now c.args.row.now
+packed c =
+    let test = c.loop-at-test.false in
+    packed_all c.args.self.now c.args.row.now c.loop-at.at c.loop-at.leaves (omega (arith, c.leaves-at-end.ensures)) c.loop-at.invariant
+
+pub returns-clause-leaves : goal.returns-clause-leaves
+returns-clause-leaves c = packed c
 
 pub returns-clause-row : goal.returns-clause-row
 returns-clause-row c is =

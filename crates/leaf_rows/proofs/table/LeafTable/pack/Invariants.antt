@@ -1,5 +1,5 @@
 use Rattle.leaf_rows.proofs.Leaves.{ArePacked}
 use Rattle.leaf_rows.proofs.table.LeafTable.pack.Given as goal
 
-abbrev pub invariant-loop-p : goal.invariant-loop-p
-invariant-loop-p l = ArePacked l.self l.row l.p l.at l.leaves
+abbrev pub invariant-loop-at : goal.invariant-loop-at
+invariant-loop-at l = ArePacked l.self l.row l.at l.leaves
