@@ -13,6 +13,8 @@ mod induction;
 #[cfg(test)]
 mod least_runs;
 #[cfg(test)]
+mod leaves;
+#[cfg(test)]
 mod partitions;
 #[cfg(test)]
 mod posed;

@@ -101,7 +101,10 @@ fn are_same(graph: &Graph, a: Lit, b: Lit) -> bool {
 fn is_merged(alloc: Global, graph: &mut Graph, a: Lit, b: Lit) -> bool {
     match Asker::posing(alloc, 2, 0) {
         Ok(mut asker) => {
-            is_put_aside(alloc, graph, &mut asker, a, b) && is_taken(alloc, graph, &mut asker)
+            let merged = is_put_aside(alloc, graph, &mut asker, a, b)
+                && is_taken(alloc, graph, &mut asker);
+            drop(asker);
+            merged
         }
         Err(_) => false,
     }
@@ -339,7 +342,11 @@ fn comes_out_in(alloc: Global, graph: &mut Graph, case: Case) -> bool {
         _ => 0,
     };
     match Asker::posing(alloc, 2, hard) {
-        Ok(mut asker) => comes_out(alloc, graph, &mut asker, case) == Ok(true),
+        Ok(mut asker) => {
+            let outcome = comes_out(alloc, graph, &mut asker, case) == Ok(true);
+            drop(asker);
+            outcome
+        }
         Err(_) => false,
     }
 }

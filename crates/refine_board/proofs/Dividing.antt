@@ -1,9 +1,13 @@
 -- What a version's split by a vector of the run is to the board.
 use Rattle.std.proofs.Common.{◌≡◌, ◌<◌, ◌≤◌, ◌+◌, ℕ, Bool, List, sym, subst, arith}
-use Rattle.circ_model.specs.Meaning.{Pair, places_of}
+use Rattle.circ_model.specs.Meaning.{Pair, IsSoundPair, places_of}
 use Rattle.circ_model.specs.Correspondence.{MaySplit}
 use Rattle.class_partition.specs.Classes.{Classes, ArePartition, IsSplit, class_count, split_of}
 use Rattle.class_partition.proofs.Splitting.{split_is}
+use Rattle.leaf_rows.specs.Laws.{SplitRowsAreRows}
+use Rattle.leaf_rows.specs.Rows.{IsRowOf}
+use Rattle.product_machine.specs.Cells.{cells}
+use Rattle.product_machine.specs.declared.cell.Cell.{Cell}
 use Rattle.verdict_stamp.specs.Versions.{Standing, Split, IsVector}
 use Rattle.refine_board.specs.Running.{IsOf}
 
@@ -27,3 +31,8 @@ divided_is pair v w row bits added pair_is partition bits_is split count some =
 pub may_of_run : (pair : Pair) (k : ℕ) (x : Split) (bits : List Bool) → bits ≡ x.bits → IsOf pair k x → IsVector x → MaySplit pair k bits
 may_of_run pair k x bits e of is =
     subst (MaySplit pair k) (sym e) (subst (λ (n : ℕ). MaySplit pair n x.bits) of.1 (subst (λ (p : Pair). MaySplit p x.k x.bits) of.0 is.may))
+
+-- its row obeys the cells of the run's pair
+pub row_of_run : (pair : Pair) (k : ℕ) (x : Split) (bits : List Bool) (cs : List Cell) → SplitRowsAreRows → cs ≡ cells pair → IsSoundPair x.pair → bits ≡ x.bits → IsOf pair k x → IsVector x → IsRowOf cs bits
+row_of_run pair k x bits cs law cs_is sound e of is =
+    subst (λ (l : List Cell). IsRowOf l bits) (sym cs_is) (law pair k bits (subst IsSoundPair of.0 sound) (may_of_run pair k x bits e of is))

@@ -8,6 +8,7 @@ use Rattle.circ_model.specs.Meaning.{Pair, places_of}
 use Rattle.circ_model.specs.Correspondence.{MaySplit}
 use Rattle.class_partition.specs.declared.classes.Needed.{Needed}
 use Rattle.class_partition.specs.Classes.{Classes, HoldIn, IsNeeded, least_of}
+use Rattle.product_machine.specs.declared.cell.Cell.{Cell}
 use Rattle.used_pairs.specs.Lists.{all_together}
 use Rattle.verdict_stamp.specs.Versions.{Standing, Passed}
 use Rattle.verdict_stamp.specs.Versions as vector
@@ -23,10 +24,11 @@ use Rattle.refine_board.specs.declared.journal.Entry.{Entry}
 use Rattle.refine_board.specs.States.{State, mark_of, IsCountedAt, IsNeededPair, IsOpen, offer_of}
 use Rattle.refine_board.specs.Schedules.{IsStep, IsSupported, Leads, opened}
 
--- a journal's entries, and how many more it has room for
+-- a journal's entries, how many more it has room for, and the cells of the pair whose rows it has
 pub record Written : Type 0 where
   pub entries : List Entry
   pub room : ℕ
+  pub cells : List Cell
 
 -- a running board: its state, its journal, the room in it that no answer is owed, how many entries are owed, the stamp of the version that was
 -- published since the last split, and the seat at the word from which workers claim its pairs

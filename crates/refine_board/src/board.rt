@@ -49,9 +49,10 @@ pub struct Board<'v, 'p, L: Run> {
 }
 
 impl<'v, 'p, L: Run> Model for Board<'v, 'p, L> {
-    ghost use Rattle.std.specs.Prelude.{◌-◌};
+    ghost use Rattle.std.specs.Prelude.{◌≡◌, ◌-◌};
     ghost use Rattle.claim_word.specs.Words.{version_of};
     ghost use Rattle.circ_model.specs.Meaning.{places_of};
+    ghost use Rattle.product_machine.specs.Cells.{cells};
     ghost use Rattle.refine_board.specs.Running.{Running, IsRunning, IsOfRun, IsHeld, state_of};
 
     ghost Value = { Running };
@@ -60,7 +61,8 @@ impl<'v, 'p, L: Run> Model for Board<'v, 'p, L> {
 
     ghost invariant = { λ b. IsRunning L.pair L.k L.workers L.opening (state_of b.version b.marks b.calls.items b.offers.items) b.journal.entries
         × IsOfRun L.pair L.k L.workers L.opening b.version b.first L.list b.versions.now b.current L.word b.word.now b.seat b.turn
-        × IsHeld (places_of L.pair) (state_of b.version b.marks b.calls.items b.offers.items) b.cursor b.waiting b.owed.total b.journal.room L.parts b.rest.parts };
+        × IsHeld (places_of L.pair) (state_of b.version b.marks b.calls.items b.offers.items) b.cursor b.waiting b.owed.total b.journal.room L.parts b.rest.parts
+        × (b.journal.cells ≡ cells L.pair) };
 }
 
 impl<'v, 'p, L: Run> Board<'v, 'p, L> {
@@ -92,6 +94,7 @@ impl<'v, 'p, L: Run> Board<'v, 'p, L> {
         let marks = Marks::open(alloc, places)?;
         let calls = no_calls(alloc, parties)?;
         let offers = no_offers(alloc, parties)?;
+        let journal = Journal::new(alloc, first.product())?;
         let (owed, rest) = blank.open::<L>();
         Ok(Board {
             alloc,
@@ -105,7 +108,7 @@ impl<'v, 'p, L: Run> Board<'v, 'p, L> {
             marks,
             calls,
             offers,
-            journal: Journal::new(alloc),
+            journal,
             cursor: 0,
             owed,
             rest,

@@ -1,5 +1,5 @@
 //! The replay of a journal, for whoever reads one: its splits, one after the other, on a copy of the opening's classes.
-ghost use Rattle.std.specs.Prelude.{◌≡◌, ℕ, IfOk, length};
+ghost use Rattle.std.specs.Prelude.{◌≡◌, ℕ, IfOk, OnOk, length};
 ghost use Rattle.class_partition.specs.Classes.{ArePartition};
 ghost use Rattle.refine_board.specs.States.{State};
 ghost use Rattle.refine_board.specs.Schedules.{Leads, opened};
@@ -11,18 +11,19 @@ use std::alloc::{AllocError, Global};
 use verdict_stamp::Version;
 
 // What an entry does to the classes.
-fn replay_step(classes: &mut Classes, step: &Step)
+fn replay_step(alloc: Global, classes: &mut Classes, step: &Step) -> Result<(), AllocError>
     ensures places { length classes.new.least ≡ length classes.old.least }
     ensures partition { ArePartition (length classes.old.least) classes.old }
-    ensures split { HasRow (length classes.old.least) step.now → classes.new ≡ replayed step.now classes.old }
+    ensures split { OnOk result (HasRow (length classes.old.least) step.now → classes.new ≡ replayed step.now classes.old) }
 {
     let places = classes.len();
     if let Step::Split(laid, _) = step {
-        let bits = laid.row();
+        let bits = laid.row(alloc)?;
         if bits.len() == places {
-            classes.split_by(bits);
+            classes.split_by(&bits);
         }
     }
+    Ok(())
 }
 
 /// The classes of the state to which a legal journal leads, from the version on which its board opened, with so many workers.
@@ -37,7 +38,7 @@ pub fn replay(
     let _parties = workers;
     let mut classes = first.classes().copy(alloc)?;
     for i in 0..journal.len() {
-        replay_step(&mut classes, &journal.entry(i).step);
+        replay_step(alloc, &mut classes, &journal.entry(i).step)?;
     }
     Ok(classes)
 }

@@ -2,6 +2,7 @@
 ghost use Rattle.std.specs.Prelude.{◌≡◌, ◌≢◌, ◌<◌, ◌≤◌, ◌+◌, ◌^◌, ◌++◌, ◌∷◌, ◌↔◌, [], ℕ, IsTrue, length, set, slice_index, slice_index_or, replicate, take, Some, None, IfOk, true, false};
 ghost use Rattle.std.specs.List.{All};
 ghost use Rattle.class_partition.specs.Classes.{IsNeeded};
+ghost use Rattle.leaf_rows.specs.Rows.{IsRowOf};
 ghost use Rattle.refine_board.specs.declared.marks.Mark.TheVariants.{Open};
 ghost use Rattle.refine_board.specs.declared.marks.LastOffer.{LastOffer};
 ghost use Rattle.refine_board.specs.declared.journal.Step.TheVariants.{Already, Split};
@@ -161,6 +162,7 @@ pub(crate) fn note(calls: &mut Vec<u64>, journal: &mut Journal, party: u32, step
     requires room { 0 < journal.old.room }
     ensures calls { calls.new.items ≡ set calls.old.items party (slice_index calls.old.items party + 1) }
     ensures entries { journal.new.entries ≡ journal.old.entries ++ record { worker = party; call = slice_index calls.old.items party; step = step } ∷ [] }
+    ensures cells { journal.new.cells ≡ journal.old.cells }
     ensures room { journal.new.room + 1 ≡ journal.old.room }
 {
     let call = next_call(calls, journal, party);
@@ -176,14 +178,16 @@ pub(crate) fn note_split(
     calls: &mut Vec<u64>,
     journal: &mut Journal,
     party: u32,
-    bits: BitRow,
+    bits: &BitRow,
     added: u32,
 )
     requires party { party < length calls.old.items }
     requires few { slice_index calls.old.items party ≤ length journal.old.entries }
     requires room { 0 < journal.old.room }
+    requires row { IsRowOf journal.old.cells bits.now }
     ensures calls { calls.new.items ≡ set calls.old.items party (slice_index calls.old.items party + 1) }
-    ensures entries { journal.new.entries ≡ journal.old.entries ++ record { worker = party; call = slice_index calls.old.items party; step = Split bits added } ∷ [] }
+    ensures entries { journal.new.entries ≡ journal.old.entries ++ record { worker = party; call = slice_index calls.old.items party; step = Split bits.now added } ∷ [] }
+    ensures cells { journal.new.cells ≡ journal.old.cells }
     ensures room { journal.new.room + 1 ≡ journal.old.room }
 {
     let call = next_call(calls, journal, party);
@@ -191,12 +195,14 @@ pub(crate) fn note_split(
 }
 
 // The same for a call whose bits split no class.
-pub(crate) fn note_already(calls: &mut Vec<u64>, journal: &mut Journal, party: u32, bits: BitRow)
+pub(crate) fn note_already(calls: &mut Vec<u64>, journal: &mut Journal, party: u32, bits: &BitRow)
     requires party { party < length calls.old.items }
     requires few { slice_index calls.old.items party ≤ length journal.old.entries }
     requires room { 0 < journal.old.room }
+    requires row { IsRowOf journal.old.cells bits.now }
     ensures calls { calls.new.items ≡ set calls.old.items party (slice_index calls.old.items party + 1) }
-    ensures entries { journal.new.entries ≡ journal.old.entries ++ record { worker = party; call = slice_index calls.old.items party; step = Already bits } ∷ [] }
+    ensures entries { journal.new.entries ≡ journal.old.entries ++ record { worker = party; call = slice_index calls.old.items party; step = Already bits.now } ∷ [] }
+    ensures cells { journal.new.cells ≡ journal.old.cells }
     ensures room { journal.new.room + 1 ≡ journal.old.room }
 {
     let call = next_call(calls, journal, party);

@@ -16,6 +16,7 @@ use crate::marks::{
 };
 use crate::run::Run;
 use class_partition::Needed;
+use leaf_rows::rows_by_leaves;
 use std::alloc::AllocError;
 use std::sync::Wait;
 use std::sync::ledger::Share;
@@ -463,18 +464,20 @@ impl<'v, 'p, L: Run> Board<'v, 'p, L> {
             cursor,
             ..
         } = self;
+        rows_by_leaves();
+        let _cells = vector.product().cells();
         let added = version.split_by(&vector);
         let bits = vector.into_bits();
         if added == 0 {
             *cursor = release(version.number(), marks, offers, *cursor, party);
-            note_already(calls, journal, party, bits);
+            note_already(calls, journal, party, &bits);
             return Cut::Already;
         }
         *current = None;
         *cursor = 0;
         marks.split(version);
         offers[party as usize] = None;
-        note_split(calls, journal, party, bits, added);
+        note_split(calls, journal, party, &bits, added);
         Cut::Split(added)
     }
 

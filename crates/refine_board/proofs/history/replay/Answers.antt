@@ -17,7 +17,7 @@ loop-i-preserved c =
     let rest : List Entry = drop (c.loop-i.i + 1) entries in
     let places : length before.least ≡ places_of pair = c.loop-i.invariant.places in
     let partition : ArePartition (places_of pair) before = subst (λ (n : ℕ). ArePartition n before) places c.replay_step.ensures.partition in
-    let made : HasRow (places_of pair) entry.step → after ≡ replayed entry.step before = subst (λ (n : ℕ). HasRow n entry.step → after ≡ replayed entry.step before) places c.replay_step.ensures.split in
+    let made : HasRow (places_of pair) entry.step → after ≡ replayed entry.step before = subst (λ (n : ℕ). HasRow n entry.step → after ≡ replayed entry.step before) places c.in_ok-replay_step.ensures.split in
     let is : drop c.loop-i.i entries ≡ entry ∷ rest = drop_more entries c.loop-i.i entry (omega arith) ∙ ap (λ (e : Entry). e ∷ rest) (sym c.entry.ensures) in
     record {
       places = c.replay_step.ensures.places ∙ places;

@@ -1,4 +1,4 @@
-use Rattle.std.proofs.Common.{◌≡◌, ◌<◌, ◌-◌, ℕ, length, arith, refl, sym, subst, ap}
+use Rattle.std.proofs.Common.{◌≡◌, ◌∙◌, ◌<◌, ◌-◌, ℕ, length, arith, refl, sym, subst, ap}
 use Rattle.circ_model.specs.Meaning.{places_of}
 use Rattle.refine_board.specs.declared.journal.Step.TheVariants.{Done}
 use Rattle.refine_board.specs.States.{State, AllCounted, called}
@@ -17,4 +17,4 @@ invariant_of-self g c =
     let inside : q < length before.calls = omega (arith, c.requires.party, was.calls) in
     let all : AllCounted (places_of g.L.Run.pair) before = subst (λ (r : Running). AllCounted (places_of g.L.Run.pair) r.state) (sym c.self.view_is) c.requires.all in
     let is = running_after g.L.Run.pair g.L.Run.k g.L.Run.workers g.L.Run.opening before (called q before) i.journal.entries q Done (inside, refl, (all, refl)) tt was in
-    (rw (c.note.ensures.calls, c.note.ensures.entries) is, c.self.invariant.1, rw c.note.ensures.calls (held_after (places_of g.L.Run.pair) i.cursor i.cursor i.waiting i.owed.total i.journal.room c.note.new.journal.room g.L.Ledger.parts i.rest.parts before (called q before) held c.note.ensures.room (omega (arith, room, c.requires.room)) held.passed held.cursor_in))
+    (rw (c.note.ensures.calls, c.note.ensures.entries) is, c.self.invariant.1, rw c.note.ensures.calls (held_after (places_of g.L.Run.pair) i.cursor i.cursor i.waiting i.owed.total i.journal.room c.note.new.journal.room g.L.Ledger.parts i.rest.parts before (called q before) held c.note.ensures.room (omega (arith, room, c.requires.room)) held.passed held.cursor_in), c.note.ensures.cells ∙ c.self.invariant.3)

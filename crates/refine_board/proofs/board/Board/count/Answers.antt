@@ -32,4 +32,5 @@ invariant_of-self g c =
       c.self.invariant.1,
       rw (c.note.ensures.calls, c.put.ensures, c.into_used-used.ensures.one) (held_after (places_of g.L.Run.pair) i.cursor i.cursor i.waiting i.owed.total i.journal.room c.note.new.journal.room g.L.Ledger.parts i.rest.parts before after held c.note.ensures.room (omega (arith, room, c.requires.room))
           (λ m lt open_now. held.passed m lt (open_now.0, was_there i.marks p.member m (Proved p.rep w.used) Open Open (λ (e : Proved p.rep w.used ≡ Open). cc) open_now.1)) held.cursor_in),
+      c.note.ensures.cells ∙ c.self.invariant.3,
     )

@@ -1,4 +1,4 @@
-use Rattle.std.proofs.Common.{◌≡◌, ◌<◌, ◌-◌, ℕ, length, arith, refl, sym, subst, ap}
+use Rattle.std.proofs.Common.{◌≡◌, ◌∙◌, ◌<◌, ◌-◌, ℕ, length, arith, refl, sym, subst, ap}
 use Rattle.circ_model.specs.Meaning.{places_of}
 use Rattle.refine_board.specs.States.{State, called, released}
 use Rattle.refine_board.specs.Running.{Running, IsRunning, Frees, state_of}
@@ -23,4 +23,5 @@ invariant_of-self g c =
       c.self.invariant.1,
       rw c.note.ensures.calls (held_after (places_of g.L.Run.pair) i.cursor c.release.result i.waiting i.owed.total i.journal.room c.note.new.journal.room g.L.Ledger.parts i.rest.parts before after held c.note.ensures.room (omega (arith, room, c.requires.room))
           (λ m lt open_now. held.passed m (omega (arith, lt, c.release.ensures.cursor)) (open_now.0, c.release.ensures.passed m lt open_now.1)) (omega (arith, c.release.ensures.cursor, held.cursor_in))),
+      c.note.ensures.cells ∙ c.self.invariant.3,
     )

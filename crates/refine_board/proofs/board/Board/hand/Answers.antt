@@ -1,4 +1,4 @@
-use Rattle.std.proofs.Common.{◌≡◌, ◌<◌, ◌-◌, ℕ, length, arith, refl, sym, subst, ap}
+use Rattle.std.proofs.Common.{◌≡◌, ◌∙◌, ◌<◌, ◌-◌, ℕ, length, arith, refl, sym, subst, ap}
 use Rattle.circ_model.specs.Meaning.{places_of}
 use Rattle.class_partition.specs.declared.classes.Needed.{Needed}
 use Rattle.refine_board.specs.declared.marks.Mark.TheVariants.{Open, Out}
@@ -25,4 +25,5 @@ invariant_of-self g c =
       c.self.invariant.1,
       rw (c.note.ensures.calls, c.number-number.ensures, c.put.ensures) (held_after (places_of g.L.Run.pair) i.cursor i.cursor i.waiting i.owed.total i.journal.room c.note.new.journal.room g.L.Ledger.parts i.rest.parts before after held c.note.ensures.room (omega (arith, room, c.requires.room))
           (λ n lt open_now. held.passed n lt (open_now.0, was_there i.marks p.member n Out Open Open (λ (e : Out ≡ Open). cc) open_now.1)) held.cursor_in),
+      c.note.ensures.cells ∙ c.self.invariant.3,
     )

@@ -43,4 +43,5 @@ invariant_of-self g c =
         turn_is = subst (λ (n : ℕ). version_of n ≤ i.turn + 1) (sym written) (omega (arith, c.in_ok-pending.ensures.few, c.len-pairs.ensures));
       },
       c.self.invariant.2,
+      c.self.invariant.3,
     )
