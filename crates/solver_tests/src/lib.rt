@@ -13,6 +13,8 @@ mod formulas;
 #[cfg(test)]
 mod guidance;
 #[cfg(test)]
+mod resolving;
+#[cfg(test)]
 mod rows;
 #[cfg(test)]
 mod solving;
