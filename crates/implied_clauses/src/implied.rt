@@ -17,7 +17,8 @@ pub struct Step {
     pub clause: u32,
 }
 
-/// Clauses over so many codes of literals, of which the first were given, and imply all.
+/// Clauses over so many codes of literals, of which the first were given, and imply all. A code is twice the variable, from 0 on, plus one
+/// where it is complemented, so there are twice as many codes as variables.
 #[derive(Drop)]
 pub struct Implied {
     given: usize,
