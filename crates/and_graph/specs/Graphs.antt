@@ -1,5 +1,5 @@
 -- An and-inverter graph that knows nothing of what it is made from: nodes, and what the values of its nodes obey.
-use Rattle.std.specs.Prelude.{◌≡◌, ℕ, ◌/◌, ◌<◌, ◌≤◌, ◌^◌, ◌⊎◌, List, length, Bool, false, ◌&&◌, slice_index_or}
+use Rattle.std.specs.Prelude.{◌≡◌, ℕ, ◌/◌, ◌<◌, ◌≤◌, ◌^◌, ◌⊎◌, List, All, length, Bool, false, ◌&&◌, slice_index_or}
 use Rattle.circ_model.specs.Meaning.{literal, literal_value}
 use Rattle.and_graph.specs.declared.node.Node.{Node}
 
@@ -24,6 +24,14 @@ pub record Agrees (nodes : List Node) (v : ℕ → Bool) : Type 0 where
 -- two literals have one value under each valuation
 abbrev pub AreEqual : List Node → ℕ → ℕ → Type 0
 AreEqual nodes a b = (v : ℕ → Bool) → Obeys nodes v → literal_value v a ≡ literal_value v b
+
+-- the literals of each pair have one value
+abbrev pub AllEqual : (ℕ → Bool) → List (ℕ × ℕ) → Type 0
+AllEqual v pairs = All (λ (p : ℕ × ℕ). literal_value v p.0 ≡ literal_value v p.1) pairs
+
+-- two literals have one value under each valuation under which those of each pair do
+abbrev pub AreEqualWhere : List Node → List (ℕ × ℕ) → ℕ → ℕ → Type 0
+AreEqualWhere nodes pairs a b = (v : ℕ → Bool) → Obeys nodes v → AllEqual v pairs → literal_value v a ≡ literal_value v b
 
 -- a node is a leaf, or a gate over nodes before it; its canonical literal doesn't stand after it
 abbrev pub IsLeaf : ℕ → Node → Type 0

@@ -6,6 +6,7 @@ ghost use Rattle.and_graph.specs.Graphs.{AreEqual, GrowsTo, IsGraph, IsLeaf, Obe
 
 use crate::asking::Asker;
 use crate::canonical::{canonical_of, folded, turned};
+use crate::cone::operands_of;
 use crate::halt::Halt;
 use crate::hashing::{Table, canonical_operands};
 use crate::lemmas::Lemmas;
@@ -100,6 +101,16 @@ impl Graph {
         ensures equal { AreEqual self.now lit result }
     {
         canonical_of(self.nodes.as_slice(), lit)
+    }
+
+    /// The operands of a node by now, as canonical literals: it has the value of their product under each valuation. A leaf that isn't
+    /// merged has itself as both.
+    pub fn operands(&self, n: u32) -> (Lit, Lit)
+        requires { n < length self.now }
+        ensures within { (result.0 / 2 < length self.now) × (result.1 / 2 < length self.now) }
+        ensures value { (v : ℕ → Bool) → Obeys self.now v → v n ≡ product_of v result.0 result.1 }
+    {
+        operands_of(self.nodes.as_slice(), n)
     }
 
     /// A new leaf: no valuation of the nodes before binds it. An `Err`, here and below, is want of memory or of node numbers,

@@ -1,7 +1,7 @@
 //! Sums modulo 2, which a solver finds hard to compare where they are bracketed in two ways: codes that check or scramble what passes are
 //! made of them. Two literals are added, and the highest node of the sum is replaced by what it is the exclusive or of, until nothing
 //! is left of it, or a node that is no exclusive or. (Elimination of linear terms, as in algebraic checking of arithmetic: C. Yu, M.
-//! Ciesielski, IEEE TCAD 38(3), 2019.)
+//! Ciesielski, IEEE TCAD 38(2), 2019.)
 ghost use Rattle.std.specs.Prelude.{◌≡◌, ◌<◌, ◌≤◌, ◌/◌, ◌&&◌, ℕ, Bool, not, IfOk, IfSome, IsTrue, OnOk, length};
 ghost use Rattle.circ_model.specs.Meaning.{literal_value, signed};
 ghost use Rattle.and_graph.specs.Graphs.{AreEqual, IsGraph, Obeys, product_of};
