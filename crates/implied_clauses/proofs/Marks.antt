@@ -2,8 +2,8 @@
 use Rattle.std.proofs.Common.{◌≡◌, ◌≢◌, ◌∙◌, ◌<◌, ◌≤◌, ◌+◌, ◌/◌, ◌%◌, ◌==◌, ℕ, zero, suc, List, [], ◌∷◌, ◌++◌, length, take, drop, get_or, set, replicate, refl, length-drop, ap, sym, subst, arith, Bool, true, false, if◌then◌else◌, length-set, ◌⊎◌, inl, inr, ⊎_elim}
 use Rattle.std.specs.List.{All, Any, Contains}
 use Rattle.std.proofs.lemmas.Bool.{false≢true, eqb-true, eqb-false, ne_eqb}
-use Rattle.std.proofs.lemmas.List.{get_or-set_same, get_or-set_other, set-get_or, length-replicate, take_all, take_more, take-append-le, drop_more}
-use Rattle.std.proofs.lemmas.List.Elements.{All-push, Contains-append_cases, Contains-append_left, Contains-append_right}
+use Rattle.std.proofs.lemmas.List.{get_or-set_same, get_or-set_other, set-get_or, length-replicate, take_more, drop_more}
+use Rattle.std.proofs.lemmas.List.Elements.{Contains-append_cases, Contains-append_left, Contains-append_right}
 use Rattle.cnf_store.specs.Codes.{neg, MakesTrue, Satisfies}
 use Rattle.implied_clauses.specs.declared.implied.Step.{Step}
 use Rattle.implied_clauses.specs.Implied.{Implies, with_others, resolvent, chained, begun, IsOf, AreSteps}
@@ -224,30 +224,15 @@ marked_within [] l e = absurd (false≢true e)
 marked_within (b ∷ bs) zero e = omega arith
 marked_within (b ∷ bs) (suc l) e = let z = marked_within bs l e in omega arith
 
--- one clause more, to which a chain leads, leaves all as it was
-pub derived : (n g : ℕ) (cs : List (List ℕ)) (first : ℕ) (ss : List Step) (c : List ℕ) → g ≤ length cs → All (λ (x : List ℕ). All (λ (l : ℕ). l < n) x) cs → All (Implies (take g cs)) cs → first < length cs → AreSteps n (length cs) ss
-    → IsOf (chained cs (begun n (get_or cs first [])) ss) c → All (λ (x : List ℕ). All (λ (l : ℕ). l < n) x) (cs ++ c ∷ []) × All (Implies (take g (cs ++ c ∷ []))) (cs ++ c ∷ [])
-derived n g cs first ss c le below implied inside are is =
+-- a clause of the chain's literals is of codes, and implied
+pub derived : (n : ℕ) (gs cs : List (List ℕ)) (first : ℕ) (ss : List Step) (c : List ℕ) → All (λ (x : List ℕ). All (λ (l : ℕ). l < n) x) cs → All (Implies gs) cs → first < length cs → AreSteps n (length cs) ss
+    → IsOf (chained cs (begun n (get_or cs first [])) ss) c → All (λ (l : ℕ). l < n) c × Implies gs c
+derived n gs cs first ss c below implied inside are is =
     let marks : List Bool = begun n (get_or cs first []) in
     let size : length marks ≡ n = length_others n (get_or cs first []) (replicate n false) ∙ length-replicate n false in
-    let whole : length (chained cs marks ss) ≡ n = length_chained cs marks ss ∙ size in
-    let given : take g (cs ++ c ∷ []) ≡ take g cs = take-append-le g cs (c ∷ []) le in (
-      All-push (λ (x : List ℕ). All (λ (l : ℕ). l < n) x) cs c below (λ k d lt. let z = marked_within (chained cs marks ss) (get_or c k d) (is.only k d lt) in omega (arith, z, whole)),
-      subst (λ (gs : List (List ℕ)). All (Implies gs) (cs ++ c ∷ [])) (sym given)
-          (All-push (Implies (take g cs)) cs c implied
-          (λ row sat. clause_true row (chained cs marks ss) c is
-          (chained_true row (take g cs) cs marks ss sat (λ k d lt j e l. let z = below k d lt j e l in omega (arith, z, size)) implied (λ k d lt. let z = are k d lt in (omega (arith, z.0, size), z.1))
-          (begun_true row n (get_or cs first []) (below first [] inside) (implied first [] inside row sat))))),
+    let whole : length (chained cs marks ss) ≡ n = length_chained cs marks ss ∙ size in (
+      (λ k d lt. let z = marked_within (chained cs marks ss) (get_or c k d) (is.only k d lt) in omega (arith, z, whole)),
+      (λ row sat. clause_true row (chained cs marks ss) c is
+          (chained_true row gs cs marks ss sat (λ k d lt j e l. let z = below k d lt j e l in omega (arith, z, size)) implied (λ k d lt. let z = are k d lt in (omega (arith, z.0, size), z.1))
+          (begun_true row n (get_or cs first []) (below first [] inside) (implied first [] inside row sat)))),
     )
-
--- a clause more that the given ones imply
-pub admitted : (n g : ℕ) (cs : List (List ℕ)) (c : List ℕ) → g ≤ length cs → All (λ (x : List ℕ). All (λ (l : ℕ). l < n) x) cs → All (Implies (take g cs)) cs → All (λ (l : ℕ). l < n) c → Implies (take g cs) c
-    → All (λ (x : List ℕ). All (λ (l : ℕ). l < n) x) (cs ++ c ∷ []) × All (Implies (take g (cs ++ c ∷ []))) (cs ++ c ∷ [])
-admitted n g cs c le below implied within is = (
-  All-push (λ (x : List ℕ). All (λ (l : ℕ). l < n) x) cs c below within,
-  subst (λ (gs : List (List ℕ)). All (Implies gs) (cs ++ c ∷ [])) (sym (take-append-le g cs (c ∷ []) le)) (All-push (Implies (take g cs)) cs c implied is),
-)
-
--- given clauses imply each of themselves
-pub given_all : (cs : List (List ℕ)) (g : ℕ) → length cs ≤ g → All (Implies (take g cs)) cs
-given_all cs g le k d lt row sat = subst (λ (gs : List (List ℕ)). Satisfies row gs) (take_all g cs le) sat k d lt

@@ -8,11 +8,17 @@ use Rattle.implied_clauses.specs.declared.implied.Step.{Step}
 abbrev pub Implies : List (List ℕ) → List ℕ → Type 0
 Implies given clause = (row : List Bool) → Satisfies row given → Any (MakesTrue row) clause
 
--- all clauses there are, the first of which are given, over so many codes
+-- all clauses there are over so many codes, and those of them that were given
 pub record Store : Type 0 where
   pub codes : ℕ
   pub given : List (List ℕ)
   pub clauses : List (List ℕ)
+
+-- the clauses whose bit is set
+abbrev pub chosen : List Bool → List (List ℕ) → List (List ℕ)
+chosen [] clauses = []
+chosen (b ∷ bs) [] = []
+chosen (b ∷ bs) (c ∷ cs) = if b then c ∷ chosen bs cs else chosen bs cs
 
 -- a set of literals has a bit for each code: it with those of a clause but for one
 unfoldable pub with_others : ℕ → List ℕ → List Bool → List Bool

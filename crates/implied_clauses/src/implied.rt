@@ -17,12 +17,13 @@ pub struct Step {
     pub clause: u32,
 }
 
-/// Clauses over so many codes of literals, of which the first were given, and imply all. A code is twice the variable, from 0 on, plus one
+/// Clauses over so many codes of literals, of which some were given, and imply all. A code is twice the variable, from 0 on, plus one
 /// where it is complemented, so there are twice as many codes as variables.
 #[derive(Drop)]
 pub struct Implied {
-    given: usize,
     clauses: Arena<u32>,
+    // for each clause whether it was given
+    given: Vec<bool>,
     // a bit for each code, none of which is set between two calls; which may be set; and a clause in the making
     marks: Vec<bool>,
     listed: Vec<u32>,
@@ -30,17 +31,17 @@ pub struct Implied {
 }
 
 impl Model for Implied {
-    ghost use Rattle.std.specs.Prelude.{◌≡◌, ◌≤◌, ◌<◌, ◌*◌, ◌^◌, ℕ, List, false, length, replicate, take};
+    ghost use Rattle.std.specs.Prelude.{◌≡◌, ◌<◌, ℕ, List, false, length, replicate};
     ghost use Rattle.std.specs.List.{All};
-    ghost use Rattle.implied_clauses.specs.Implied.{Implies, Store};
+    ghost use Rattle.implied_clauses.specs.Implied.{Implies, Store, chosen};
 
     ghost Value = { Store };
 
-    ghost view = { λ s. record { codes = length s.marks.items; given = take s.given s.clauses; clauses = s.clauses } };
+    ghost view = { λ s. record { codes = length s.marks.items; given = chosen s.given.items s.clauses; clauses = s.clauses } };
 
-    ghost invariant = { λ s. (length s.marks.items < 4294967296) × (s.given ≤ length s.clauses)
+    ghost invariant = { λ s. (length s.marks.items < 4294967296) × (length s.given.items ≡ length s.clauses)
         × All (λ (c : List ℕ). All (λ (l : ℕ). l < length s.marks.items) c) s.clauses
-        × All (Implies (take s.given s.clauses)) s.clauses
+        × All (Implies (chosen s.given.items s.clauses)) s.clauses
         × (s.marks.items ≡ replicate (length s.marks.items) false) };
 }
 
@@ -103,8 +104,8 @@ fn follow(
     Ok(())
 }
 
-// The complement of a literal.
-fn complement(l: u32) -> u32
+/// The complement of a literal, by codes.
+pub fn complement(l: u32) -> u32
     ensures { result ≡ neg l }
 {
     l ^ 1
@@ -149,12 +150,29 @@ impl Implied {
         ensures { IfOk result (λ s. s ≡ record { codes = codes; given = []; clauses = [] }) }
     {
         Ok(Implied {
-            given: 0,
             clauses: Arena::new(alloc),
+            given: Vec::new(alloc),
             marks: vec![in alloc; false; codes as usize]?,
             listed: Vec::new(alloc),
             clause: Vec::new(alloc),
         })
+    }
+
+    /// For how many codes there is room.
+    pub fn codes(&self) -> u32
+        ensures { result ≡ self.now.codes }
+    {
+        self.marks.len() as u32
+    }
+
+    /// Makes room for so many codes. An `Err` changes nothing.
+    pub fn widen(&mut self, codes: u32) -> Result<(), AllocError>
+        requires more { self.old.codes ≤ codes }
+        ensures ok { OnOk result (self.new ≡ record { codes = codes; given = self.old.given; clauses = self.old.clauses }) }
+        ensures err { OnErr result (self.new ≡ self.old) }
+    {
+        self.marks.resize(codes as usize, false)?;
+        Ok(())
     }
 
     /// How many clauses there are.
@@ -173,26 +191,15 @@ impl Implied {
         self.clauses.get(i)
     }
 
-    /// Appends a clause that is given. No other may have been derived or admitted yet.
+    /// Appends a clause that is given.
     pub fn give(&mut self, clause: &[u32]) -> Result<(), AllocError>
-        requires first { self.old.given ≡ self.old.clauses }
         requires literals { All (λ (l : ℕ). l < self.old.codes) clause.now }
         ensures ok { OnOk result (self.new ≡ record { codes = self.old.codes; given = self.old.given ++ clause.now ∷ []; clauses = self.old.clauses ++ clause.now ∷ [] }) }
         ensures err { OnErr result (self.new ≡ self.old) }
     {
+        self.given.reserve(1)?;
         self.clauses.add(clause)?;
-        self.given = self.clauses.len();
-        Ok(())
-    }
-
-    /// Appends a clause of which something else shows that the given ones imply it.
-    pub fn admit(&mut self, clause: &[u32]) -> Result<(), AllocError>
-        requires literals { All (λ (l : ℕ). l < self.old.codes) clause.now }
-        requires implied { Implies self.old.given clause.now }
-        ensures ok { OnOk result (self.new ≡ record { codes = self.old.codes; given = self.old.given; clauses = self.old.clauses ++ clause.now ∷ [] }) }
-        ensures err { OnErr result (self.new ≡ self.old) }
-    {
-        self.clauses.add(clause)?;
+        self.given.push_reserved(true);
         Ok(())
     }
 
@@ -206,14 +213,24 @@ impl Implied {
     {
         let Implied {
             clauses,
+            given,
             marks,
             listed,
             clause,
-            ..
         } = self;
         make(clauses, marks, listed, clause, first, steps)?;
+        given.reserve(1)?;
         clauses.add(clause.as_slice())?;
+        given.push_reserved(false);
         Ok(())
+    }
+
+    /// Takes all clauses away. It keeps the memory.
+    pub fn clear(&mut self)
+        ensures { self.new ≡ record { codes = self.old.codes; given = []; clauses = [] } }
+    {
+        self.clauses.cut(0);
+        self.given.clear();
     }
 }
 

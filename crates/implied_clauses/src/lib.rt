@@ -5,4 +5,4 @@
 
 mod implied;
 
-pub use implied::{Implied, Step};
+pub use implied::{Implied, Step, complement};
