@@ -1,0 +1,6 @@
+use Rattle.std.proofs.Common.{◌≡◌, ◌⊎◌, ℕ, take}
+use Rattle.std.specs.List.{All}
+use Rattle.kept_solver.proofs.solver.is_over.Given as goal
+
+abbrev pub invariant-loop-l : goal.invariant-loop-l
+invariant-loop-l l = All (λ (c : ℕ). (c ≡ l.x) ⊎ (c ≡ l.y)) (take l.l-index l.clause)
