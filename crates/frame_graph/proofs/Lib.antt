@@ -7,4 +7,3 @@ pub mod Going
 pub mod Mapped
 pub mod Merges
 pub mod InFrame
-pub mod Assuming

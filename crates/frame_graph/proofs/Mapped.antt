@@ -8,14 +8,14 @@ use Rattle.circ_model.specs.Correspondence.{HoldsIn}
 use Rattle.circ_model.proofs.Literals.{value_of_literal}
 use Rattle.class_partition.specs.Classes.{Classes, least_of, needed, phase_of}
 use Rattle.and_graph.specs.declared.node.Node.{Node}
-use Rattle.and_graph.specs.Graphs.{AreEqual, GrowsTo, IsGraph, Obeys}
+use Rattle.and_graph.specs.Graphs.{AreEqual, AreEqualWhere, GrowsTo, IsGraph, Obeys}
 use Rattle.and_graph.proofs.Nodes.{obeys_before}
 use Rattle.std.specs.Prelude.{All}
 use Rattle.frame_graph.specs.Frames.{FrameOf, GoesOn, Stands}
 use Rattle.frame_graph.specs.Inductions.{HoldsInFrame, IsRunTo, IsStepPath, StepPasses}
 use Rattle.frame_graph.specs.Leaves.{AreLeaves, Leaves, Reads}
 use Rattle.frame_graph.specs.Maps.{AreWithin, IsResetMap, IsStepMap, Mapping, Shows, induction_of}
-use Rattle.frame_graph.specs.Owed.{AreEqualWhere, IsOwed}
+use Rattle.frame_graph.specs.Owed.{IsOwed}
 use Rattle.frame_graph.proofs.Going.{shows_run, stands_step}
 use Rattle.frame_graph.proofs.ReadPaths.{each_path_is_read, input_within}
 use Rattle.frame_graph.proofs.Showing.{same_place, shown_at}

@@ -1,7 +1,7 @@
 -- What a place of a frame in which the classes hold owes: its literal is what stands there. A question about the last frame may assume
 -- it, and is then exact.
-use Rattle.std.specs.Prelude.{◌≡◌, ◌<◌, ℕ, List, All, Bool}
-use Rattle.circ_model.specs.Meaning.{Path, literal_value, places_of}
+use Rattle.std.specs.Prelude.{◌≡◌, ℕ, List, Bool}
+use Rattle.circ_model.specs.Meaning.{Path, literal_value}
 use Rattle.class_partition.specs.Classes.{Classes}
 use Rattle.and_graph.specs.declared.node.Node.{Node}
 use Rattle.and_graph.specs.Graphs.{Obeys}
@@ -12,11 +12,3 @@ use Rattle.frame_graph.specs.Maps.{Mapping, induction_of}
 -- two literals are equal on each path of the step
 pub record IsOwed (nodes : List Node) (m : Mapping) (classes : Classes) (p : ℕ × ℕ) : Type 0 where
   pub equal : (path : Path) (v : ℕ → Bool) → IsStepPath (induction_of m classes) path → Obeys nodes v → Reads m.leaves path v → literal_value v p.0 ≡ literal_value v p.1
-
--- two literals are equal under each valuation under which those of each of these pairs are
-abbrev pub AreEqualWhere : List Node → List (ℕ × ℕ) → ℕ → ℕ → Type 0
-AreEqualWhere nodes owed a b = (v : ℕ → Bool) → Obeys nodes v → All (λ (p : ℕ × ℕ). literal_value v p.0 ≡ literal_value v p.1) owed → literal_value v a ≡ literal_value v b
-
--- so many places, each of one of the frames in which the classes are assumed
-abbrev pub AllOwed : Mapping → List (ℕ × ℕ) → Type 0
-AllOwed m owed = All (λ (p : ℕ × ℕ). (p.0 < m.depth) × (p.1 < places_of m.leaves.pair)) owed

@@ -5,7 +5,6 @@
 #![tactic(auto)]
 
 mod cells;
-mod constraints;
 mod frame;
 mod frames;
 mod laws;

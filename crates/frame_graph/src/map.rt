@@ -7,13 +7,13 @@ ghost use Rattle.circ_model.specs.Correspondence.{IsLiteral};
 ghost use Rattle.circ_model.specs.Meaning.{Path, literal_value, places_of, row_at, value_in};
 ghost use Rattle.class_partition.specs.Classes.{Classes as AnyClasses};
 ghost use Rattle.and_graph.specs.declared.node.Node.{Node};
-ghost use Rattle.and_graph.specs.Graphs.{AreEqual, GrowsTo, IsGraph, IsLeaf, node_at};
+ghost use Rattle.and_graph.specs.Graphs.{AreEqual, AreEqualWhere, GrowsTo, IsGraph, IsLeaf, node_at};
 ghost use Rattle.frame_graph.specs.Decoded.{IsInputOf, StandsFor};
 ghost use Rattle.frame_graph.specs.Frames.{frame_of};
 ghost use Rattle.frame_graph.specs.Inductions.{HoldsInFrame, StepPasses};
 ghost use Rattle.frame_graph.specs.Leaves.{AreLeaves, leaf_count};
 ghost use Rattle.frame_graph.specs.Maps.{AreWithin, IsResetMap, IsStepMap, Shows, induction_of};
-ghost use Rattle.frame_graph.specs.Owed.{AreEqualWhere, IsOwed};
+ghost use Rattle.frame_graph.specs.Owed.{IsOwed};
 
 use crate::frame::{Frame, LeafRange};
 use crate::frames::{push_reset_frame, push_reset_frames, push_step_frames};

@@ -14,8 +14,19 @@ pub struct FreeBit {
     pub value: bool,
 }
 
+/// Whether a pair is equal in the last frame of the step where what is assumed holds.
+#[derive(Drop)]
+pub enum Difference {
+    /// It is.
+    Equal,
+    /// It seems to differ where free bits on which it rests have these values: a hint.
+    Apart(Vec<FreeBit>),
+    /// That isn't known.
+    Unknown,
+}
+
 // The free bits for which a pattern's leaves stand.
-fn free_bits(
+pub(crate) fn free_bits(
     alloc: Global,
     frames: &FrameMap<'_>,
     pattern: &Pattern,

@@ -8,5 +8,5 @@ mod free_bit;
 mod sweep;
 
 pub use and_graph::{Asker, Halt};
-pub use free_bit::FreeBit;
+pub use free_bit::{Difference, FreeBit};
 pub use sweep::{Sweep, SweepMemory};

@@ -3,13 +3,14 @@ ghost use Rattle.std.specs.Prelude.{◌≡◌, ◌<◌, ◌≤◌, ◌+◌, ◌*
 ghost use Rattle.and_graph.specs.Askers.{IsHalted, IsTaken};
 ghost use Rattle.circ_model.specs.Meaning.{places_of};
 ghost use Rattle.frame_graph.specs.Inductions.{BasePasses, HoldsInFrame, StepPasses};
-ghost use Rattle.pair_sweep.specs.Sweeps.{AreOwedOf, IsSweep};
+ghost use Rattle.pair_sweep.specs.Sweeps.{IsSweep, PassesIfEqual};
 
-use crate::free_bit::{FreeBit, decoded};
+use crate::free_bit::{Difference, FreeBit, decoded, free_bits};
 use and_graph::{Asker, Graph, Halt};
 use circ_model::Lit;
 use class_partition::Classes;
 use frame_graph::FrameMap;
+use graph_solver::{Answer, GraphSolver};
 use product_machine::Product;
 use std::alloc::{AllocError, Global};
 use std::marker::Model;
@@ -21,6 +22,7 @@ pub struct SweepMemory<'p> {
     graph: Graph,
     resets: FrameMap<'p>,
     steps: FrameMap<'p>,
+    solver: GraphSolver,
 }
 
 impl<'p> Model for SweepMemory<'p> {
@@ -50,11 +52,13 @@ impl<'p> SweepMemory<'p> {
         let mut resets = FrameMap::new(alloc, product, &mut graph, most + 1)?;
         resets.map_reset(&mut graph, k)?;
         let steps = resets.beside(alloc);
+        let solver = GraphSolver::new(alloc)?;
         Ok(SweepMemory {
             k,
             graph,
             resets,
             steps,
+            solver,
         })
     }
 
@@ -69,6 +73,7 @@ impl<'p> SweepMemory<'p> {
             mut graph,
             mut resets,
             steps,
+            solver,
         } = self;
         if resets.frames() == k + 1 {
             return SweepMemory::new(alloc, resets.product(), k + 1, k + 1);
@@ -79,6 +84,7 @@ impl<'p> SweepMemory<'p> {
             graph,
             resets,
             steps,
+            solver,
         })
     }
 
@@ -105,6 +111,8 @@ pub struct Sweep<'v, 'p> {
     graph: Graph,
     resets: FrameMap<'p>,
     steps: FrameMap<'p>,
+    // what is assumed in this version of the frames in which the classes hold
+    solver: GraphSolver,
 }
 
 impl<'v, 'p> Model for Sweep<'v, 'p> {
@@ -115,7 +123,7 @@ impl<'v, 'p> Model for Sweep<'v, 'p> {
 
     ghost view = { λ s. record { pair = s.resets.leaves.pair; k = s.k; classes = s.classes.now } };
 
-    ghost invariant = { λ s. IsSweep s.graph s.resets s.steps s.k s.classes.now };
+    ghost invariant = { λ s. IsSweep s.graph s.resets s.steps s.solver s.k s.classes.now };
 }
 
 impl<'v, 'p> Sweep<'v, 'p> {
@@ -130,7 +138,9 @@ impl<'v, 'p> Sweep<'v, 'p> {
             mut graph,
             resets,
             mut steps,
+            mut solver,
         } = memory;
+        solver.clear()?;
         steps.map_step(&mut graph, classes, k)?;
         Ok(Sweep {
             classes,
@@ -138,6 +148,7 @@ impl<'v, 'p> Sweep<'v, 'p> {
             graph,
             resets,
             steps,
+            solver,
         })
     }
 
@@ -150,6 +161,7 @@ impl<'v, 'p> Sweep<'v, 'p> {
             graph,
             resets,
             steps,
+            solver,
             ..
         } = self;
         SweepMemory {
@@ -157,6 +169,7 @@ impl<'v, 'p> Sweep<'v, 'p> {
             graph,
             resets,
             steps,
+            solver,
         }
     }
 
@@ -223,27 +236,65 @@ impl<'v, 'p> Sweep<'v, 'p> {
         Ok(decoded(alloc, frames, found)?)
     }
 
-    /// The same, where so many places are asked to owe what they owe: each by its frame, below k, and itself. Where it is found
-    /// equal so, what rests on it is mapped over its class's least place.
-    pub fn step_difference_where(
-        &mut self,
-        alloc: Global,
-        asker: &mut Asker,
-        member: u32,
-        owed: &[(u32, u32)],
-    ) -> Result<Option<Vec<FreeBit>>, AllocError>
+    /// Whether the graph shows that it is equal there, with no question. It errs for want of memory alone.
+    pub fn is_same(&mut self, member: u32) -> Result<bool, AllocError>
         requires place { member < places_of self.old.pair }
-        requires owed { AreOwedOf self.old owed.now }
         ensures kept { self.new ≡ self.old }
-        ensures passes { IfOk result (λ found. IfNone found (StepPasses self.old member)) }
-        ensures most { asker.new.most ≡ asker.old.most }
+        ensures passes { IfOk result (λ same. IsTrue same → StepPasses self.old member) }
     {
         let _places = self.classes.len();
         self.steps.reach(&mut self.graph, member + 1)?;
-        let found = self
-            .steps
-            .settle_step_where(alloc, &mut self.graph, asker, self.classes, member, owed)?;
-        decoded(alloc, &self.steps, found)
+        let (least, other) = self.steps.step_pair(self.classes, member);
+        let _nodes = self.graph.len();
+        Ok(self.graph.same(least, other))
+    }
+
+    /// Assumes from now on what a place owes in one of the first k frames, in which the classes hold. It errs for want of memory alone.
+    pub fn assume(&mut self, frame: u32, place: u32) -> Result<(), AllocError>
+        requires frame { frame < self.old.k }
+        requires place { place < places_of self.old.pair }
+        ensures { self.new ≡ self.old }
+    {
+        let _places = self.classes.len();
+        let (own, stands) = self.steps.owed(&mut self.graph, frame, place)?;
+        self.solver.assume(&self.graph, own, stands)
+    }
+
+    /// Whether something is assumed so. A hint.
+    pub fn is_assuming(&self) -> bool {
+        self.solver.has_facts()
+    }
+
+    /// Whether it is equal there, where what is assumed holds: so asks the solver that is kept for the version. It errs for want of memory
+    /// alone.
+    pub fn assumed_difference(
+        &mut self,
+        alloc: Global,
+        member: u32,
+    ) -> Result<Difference, AllocError>
+        requires place { member < places_of self.old.pair }
+        ensures kept { self.new ≡ self.old }
+        ensures passes { IfOk result (PassesIfEqual self.old member) }
+    {
+        let _places = self.classes.len();
+        self.steps.reach(&mut self.graph, member + 1)?;
+        let (least, other) = self.steps.step_pair(self.classes, member);
+        let _nodes = self.graph.len();
+        match self.solver.difference(alloc, &self.graph, least, other)? {
+            Answer::Equal => Ok(Difference::Equal),
+            Answer::Apart(pattern) => {
+                let bits = free_bits(alloc, &self.steps, &pattern)?;
+                Ok(Difference::Apart(bits))
+            }
+            Answer::Unknown => Ok(Difference::Unknown),
+        }
+    }
+
+    /// Values of the free bits on which the questions of the version rested so far, or what is assumed, in the model that was found
+    /// last. A hint.
+    pub fn whole_model(&self, alloc: Global) -> Result<Vec<FreeBit>, AllocError> {
+        let pattern = self.solver.whole_model(alloc, &self.graph)?;
+        free_bits(alloc, &self.steps, &pattern)
     }
 
     /// Whether the question that an asker has put aside rests on a place and its class's least place, in some frame in which they are to
