@@ -3,7 +3,6 @@
 //! Sheeran, Singh, Stålmarck, FMCAD 2000.)
 #![tactic(auto)]
 
-mod constraints;
 mod known;
 mod laws;
 mod opening;

@@ -13,7 +13,6 @@ ghost use Rattle.verdict_stamp.specs.Known.{IsBelow};
 ghost use Rattle.verdict_stamp.specs.Proofs.{IsApart, IsListed, IsProof, IsSettled, IsSplitOf, IsToldBy, RestsOnLess, SplitsSome};
 ghost use Rattle.used_pairs.specs.Latches.{AreByNext};
 
-use crate::constraints::Constraints;
 use crate::known::Known;
 use crate::vector::Vector;
 use crate::verdict::Verdict;
@@ -21,7 +20,7 @@ use crate::version::Version;
 use bit_rows::BitRow;
 use class_partition::Needed;
 use frame_questions::{Prepared, Separation, Workspace};
-use pair_sweep::{Asker, FreeBit, Halt, Sweep, SweepMemory};
+use pair_sweep::{Asker, Difference, FreeBit, Halt, Sweep, SweepMemory};
 use product_machine::Product;
 use split_rows::SplitRows;
 use std::alloc::{AllocError, Global};
@@ -29,7 +28,7 @@ use std::marker::Model;
 use used_pairs::latch_pairs;
 
 // So many models of a pair are run on at most.
-const MODELS: u32 = 64;
+const MODELS: u32 = 256;
 
 // Another version takes as much as questions over one node for each so many places.
 const TURN: u32 = 32;
@@ -59,7 +58,6 @@ pub struct ProverMemory<'p> {
     base: Option<Prepared<'p>>,
     resets: Workspace,
     steps: Workspace,
-    passed: Constraints,
 }
 
 impl<'p> Model for ProverMemory<'p> {
@@ -94,7 +92,6 @@ impl<'p> ProverMemory<'p> {
             base: None,
             resets: Workspace::new(),
             steps: Workspace::new(),
-            passed: Constraints::new(alloc),
         })
     }
 
@@ -118,7 +115,6 @@ impl<'p> ProverMemory<'p> {
             base: None,
             resets,
             steps,
-            passed: Constraints::new(alloc),
         })
     }
 }
@@ -134,7 +130,8 @@ pub struct Prover<'v, 'p> {
     step: Option<Prepared<'p>>,
     resets: Workspace,
     steps: Workspace,
-    passed: Constraints,
+    // for each place of each of the first k frames whether what it owes is assumed: a hint
+    assumed: Vec<bool>,
     ahead: Ahead,
     // what questions had taken before the version; whether one found a pair apart since rows were last looked for; whether the
     // version is to be left for that; and whether rows waited when they were last looked for: hints
@@ -251,6 +248,18 @@ fn is_known(version: &Version<'_>, member: u32, known: Option<&Known<'_>>) -> bo
     known.classes().paired(a, b)
 }
 
+// Marks an item of a row, which grows where it is short. Answers whether it had no mark.
+fn mark(row: &mut Vec<bool>, at: usize) -> Result<bool, AllocError> {
+    for _ in row.len()..=at {
+        row.push(false)?;
+    }
+    if at >= row.len() || row[at] {
+        return Ok(false);
+    }
+    row[at] = true;
+    Ok(true)
+}
+
 // The vector of a row of a version's places.
 fn vector_under<'p>(version: &Version<'p>, row: BitRow) -> Vector<'p>
     requires size { length row ≡ places_of version.now.pair }
@@ -293,14 +302,12 @@ impl<'v, 'p> Prover<'v, 'p> {
             base,
             resets,
             steps,
-            passed,
         } = memory;
         let Ok(sweep) = Sweep::new(sweep, version.classes()) else {
             drop(rows);
             drop(base);
             drop(resets);
             drop(steps);
-            drop(passed);
             return Err(AllocError);
         };
         let began = sweep.work();
@@ -312,7 +319,7 @@ impl<'v, 'p> Prover<'v, 'p> {
             step: None,
             resets,
             steps,
-            passed,
+            assumed: Vec::new(alloc),
             ahead: Ahead {
                 frame: 0,
                 member: 0,
@@ -335,7 +342,6 @@ impl<'v, 'p> Prover<'v, 'p> {
             base,
             resets,
             steps,
-            passed,
             ..
         } = self;
         ProverMemory {
@@ -344,7 +350,6 @@ impl<'v, 'p> Prover<'v, 'p> {
             base,
             resets,
             steps,
-            passed,
         }
     }
 
@@ -584,26 +589,6 @@ impl<'v, 'p> Prover<'v, 'p> {
         }
     }
 
-    // A model in which it seems to differ after k frames in which the classes hold, or none where it passes: under the constraints under
-    // which it passed last, or without any.
-    fn step_model(
-        &mut self,
-        alloc: Global,
-        asker: &mut Asker,
-        member: u32,
-    ) -> Result<Option<Vec<FreeBit>>, Halt>
-        requires place { member < places_of self.old.pair }
-        ensures kept { self.new ≡ self.old }
-        ensures passes { IfOk result (λ found. IfNone found (StepPasses (induction_of self.old) member)) }
-        ensures most { asker.new.most ≡ asker.old.most }
-        ensures halt { IfErr result (IsHalted asker.old asker.new) }
-    {
-        if self.passes_again(alloc, asker, member)? {
-            return Ok(None);
-        }
-        self.sweep.step_difference(alloc, asker, member)
-    }
-
     // A vector that has it apart, or none where it passes after k frames in which the classes hold: by the sweep; by rows that a model
     // leads to; and else over whole frames.
     fn step_vector(
@@ -621,10 +606,10 @@ impl<'v, 'p> Prover<'v, 'p> {
         ensures halt { IfErr result (IsHalted asker.old asker.new) }
     {
         let version = self.current;
-        let Some(bits) = self.step_model(alloc, asker, pair.member)? else {
+        if self.passes_alone(alloc, asker, pair.member)? {
             return Ok(None);
-        };
-        if self.passes_where(alloc, asker, pair, bits)? {
+        }
+        if self.passes_assuming(alloc, pair.member)? {
             return Ok(None);
         }
         if let Some(vector) = self.held(alloc, pair)? {
@@ -636,40 +621,97 @@ impl<'v, 'p> Prover<'v, 'p> {
         }
     }
 
-    // Whether it passes in the last frame, where places that a model breaks are asked to owe what they owe, a few at a time. Each
-    // model is run on; where its paths keep the classes, its rows are held, and nothing more is asked.
-    fn passes_where(
-        &mut self,
-        alloc: Global,
-        asker: &mut Asker,
-        pair: Needed,
-        model: Vec<FreeBit>,
-    ) -> Result<bool, AllocError>
-        requires place { pair.member < places_of self.old.pair }
+    // Whether it passes in the last frame with nothing assumed, where nothing is yet. Else the model is run on, and places that break
+    // the classes on its paths owe from then on what they owe.
+    fn passes_alone(&mut self, alloc: Global, asker: &mut Asker, member: u32) -> Result<bool, Halt>
+        requires place { member < places_of self.old.pair }
         ensures kept { self.new ≡ self.old }
-        ensures step { IfOk result (λ passes. IsTrue passes → StepPasses (induction_of self.old) pair.member) }
+        ensures step { IfOk result (λ passes. IsTrue passes → StepPasses (induction_of self.old) member) }
         ensures most { asker.new.most ≡ asker.old.most }
+        ensures halt { IfErr result (IsHalted asker.old asker.new) }
     {
-        let mut bits = model;
-        let mut owed = self.constraints_of_any(alloc)?;
-        if owed.len() > 0 {
-            match self.ask_where(alloc, asker, pair.member, owed.as_slice())? {
-                Some(more) => bits = more,
-                None => return Ok(true),
-            }
+        if self.sweep.is_assuming() {
+            return Ok(false);
+        }
+        let Some(bits) = self.sweep.step_difference(alloc, asker, member)? else {
+            return Ok(true);
+        };
+        let broken = self.run_on(alloc, bits.as_slice())?;
+        self.assume_all(broken.as_slice())?;
+        Ok(false)
+    }
+
+    // Whether it passes there where something is assumed: by the graph alone, or by the solver that is kept for the version. Models are
+    // run on until the paths of one keep the classes, whose rows are then held.
+    fn passes_assuming(&mut self, alloc: Global, member: u32) -> Result<bool, AllocError>
+        requires place { member < places_of self.old.pair }
+        ensures kept { self.new ≡ self.old }
+        ensures step { IfOk result (λ passes. IsTrue passes → StepPasses (induction_of self.old) member) }
+    {
+        if !self.sweep.is_assuming() {
+            return Ok(false);
+        }
+        if self.sweep.is_same(member)? {
+            return Ok(true);
         }
         for _ in 0..MODELS {
-            let broken = self.run_on(alloc, bits.as_slice())?;
-            if broken.len() == 0 {
-                return Ok(false);
-            }
-            owed.extend_from_slice(broken.as_slice())?;
-            match self.ask_where(alloc, asker, pair.member, owed.as_slice())? {
-                Some(more) => bits = more,
-                None => return Ok(true),
+            match self.sweep.assumed_difference(alloc, member)? {
+                Difference::Equal => {
+                    self.sweep.take_passed(member)?;
+                    return Ok(true);
+                }
+                Difference::Apart(bits) => {
+                    if !self.learns(alloc, bits.as_slice())? {
+                        return Ok(false);
+                    }
+                }
+                Difference::Unknown => return Ok(false),
             }
         }
         Ok(false)
+    }
+
+    // Whether a model gives more to assume. Where it is of the leaves near a pair and breaks nothing that isn't assumed yet, it is run on
+    // with all leaves that it has values of. Where its paths keep the classes there is nothing to assume.
+    fn learns(&mut self, alloc: Global, bits: &[FreeBit]) -> Result<bool, AllocError>
+        ensures { self.new ≡ self.old }
+    {
+        let broken = self.run_on(alloc, bits)?;
+        if broken.len() == 0 {
+            return Ok(false);
+        }
+        if self.assume_all(broken.as_slice())? {
+            return Ok(true);
+        }
+        let whole = self.sweep.whole_model(alloc)?;
+        let broken = self.run_on(alloc, whole.as_slice())?;
+        self.assume_all(broken.as_slice())
+    }
+
+    // Has places that broke the classes owe what they owe. Answers whether there are any of which that wasn't assumed yet.
+    fn assume_all(&mut self, broken: &[(u32, u32)]) -> Result<bool, AllocError>
+        requires broken { AllBroken self.old.k (places_of self.old.pair) broken.now }
+        ensures { self.new ≡ self.old }
+    {
+        let mut is_more = false;
+        for at in broken {
+            if self.is_news(at.0, at.1)? {
+                self.sweep.assume(at.0, at.1)?;
+                is_more = true;
+            }
+        }
+        Ok(is_more)
+    }
+
+    // Whether what a place owes isn't assumed yet; from now on it counts as assumed.
+    fn is_news(&mut self, frame: u32, place: u32) -> Result<bool, AllocError>
+        ensures { self.new ≡ self.old }
+    {
+        let places = self.current.classes().len() as usize;
+        let at = (frame as usize)
+            .saturating_mul(places)
+            .saturating_add(place as usize);
+        mark(&mut self.assumed, at)
     }
 
     // Runs a model on. Answers some of the places that break the classes, where its paths don't keep them.
@@ -679,75 +721,6 @@ impl<'v, 'p> Prover<'v, 'p> {
     {
         let classes = self.current.classes();
         self.rows.run_on(alloc, classes, bits)
-    }
-
-    // Asks where so many places owe what they owe. A pair that passes so is taken in.
-    fn ask_where(
-        &mut self,
-        alloc: Global,
-        asker: &mut Asker,
-        member: u32,
-        owed: &[(u32, u32)],
-    ) -> Result<Option<Vec<FreeBit>>, AllocError>
-        requires place { member < places_of self.old.pair }
-        requires owed { AllBroken self.old.k (places_of self.old.pair) owed.now }
-        ensures kept { self.new ≡ self.old }
-        ensures passes { IfOk result (λ found. IfNone found (StepPasses (induction_of self.old) member)) }
-        ensures most { asker.new.most ≡ asker.old.most }
-    {
-        match self
-            .sweep
-            .step_difference_where(alloc, asker, member, owed)?
-        {
-            Some(bits) => Ok(Some(bits)),
-            None => {
-                self.sweep.take_passed(member)?;
-                self.passed.note(member, owed)?;
-                Ok(None)
-            }
-        }
-    }
-
-    // Whether it passes under the constraints under which it passed last, where there are any.
-    fn passes_again(
-        &mut self,
-        alloc: Global,
-        asker: &mut Asker,
-        member: u32,
-    ) -> Result<bool, AllocError>
-        requires place { member < places_of self.old.pair }
-        ensures kept { self.new ≡ self.old }
-        ensures step { IfOk result (λ passes. IsTrue passes → StepPasses (induction_of self.old) member) }
-        ensures most { asker.new.most ≡ asker.old.most }
-    {
-        let owed = self.constraints_of(alloc, member)?;
-        if owed.len() == 0 {
-            return Ok(false);
-        }
-        let found = self.ask_where(alloc, asker, member, owed.as_slice())?;
-        if found.is_none() {
-            return Ok(true);
-        }
-        self.passed.forget(member)?;
-        Ok(false)
-    }
-
-    // The constraints under which a place's pair passed last.
-    fn constraints_of(&self, alloc: Global, member: u32) -> Result<Vec<(u32, u32)>, AllocError>
-        ensures { IfOk result (λ owed. AllBroken self.now.k (places_of self.now.pair) owed.items) }
-    {
-        let version = self.current;
-        let places = version.classes().len();
-        self.passed.of_place(alloc, member, version.k(), places)
-    }
-
-    // Those under which some pair passed last, where they are few.
-    fn constraints_of_any(&self, alloc: Global) -> Result<Vec<(u32, u32)>, AllocError>
-        ensures { IfOk result (λ owed. AllBroken self.now.k (places_of self.now.pair) owed.items) }
-    {
-        let version = self.current;
-        let places = version.classes().len();
-        self.passed.of_any(alloc, version.k(), places)
     }
 
     // That a pair of latches whose next literals the classes have together passes, by these alone: in each frame a latch has what its
