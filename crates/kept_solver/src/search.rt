@@ -4,12 +4,13 @@ ghost use Rattle.std.specs.Prelude.{◌≡◌, ◌<◌, IfOk, OnOk, length, true
 ghost use Rattle.implied_clauses.specs.Implied.{AreSteps};
 
 use crate::analysis::Analysis;
+use crate::queue::Queue;
 use crate::rows::{NONE, clause_in, item, lengthen, put};
 use crate::trail::Trail;
 use crate::watches::{Look, Watches};
 use cnf_store::Value;
 use implied_clauses::{Implied, Step, complement};
-use sat_guide::{Order, Pace};
+use sat_guide::Pace;
 use std::alloc::{AllocError, Global};
 
 /// What a search comes to.
@@ -47,18 +48,16 @@ pub(crate) struct Search {
     trail: Trail,
     watches: Watches,
     analysis: Analysis,
-    order: Order,
+    queue: Queue,
     pace: Pace,
     // from which place on the trail nothing is propagated yet, and to which place each literal of the lowest level has a clause of its own
     head: usize,
     settled: usize,
     // a clause that is false on the lowest level, or none
     broken: u32,
-    // by variable: the turn in which it was one of those that are decided; those that are decided when the question's own have values,
-    // and whether it came to them
-    near: Vec<u32>,
-    turn: u32,
+    // those that are decided when the question's own have values, and whether it came to them; and the question's own, sorted
     beside: Vec<u32>,
+    own: Vec<u32>,
     is_open: bool,
     // by level: the conflict in which it was counted
     counted: Vec<u32>,
@@ -99,14 +98,13 @@ impl Search {
             trail: Trail::new(alloc),
             watches: Watches::new(alloc),
             analysis: Analysis::new(alloc),
-            order: Order::new(alloc, 0)?,
+            queue: Queue::new(alloc),
             pace: Pace::new(),
             head: 0,
             settled: 0,
             broken: NONE,
-            near: Vec::new(alloc),
-            turn: 0,
             beside: Vec::new(alloc),
+            own: Vec::new(alloc),
             is_open: false,
             counted: Vec::new(alloc),
             conflict: 0,
@@ -130,7 +128,7 @@ impl Search {
         self.trail.widen(vars)?;
         self.watches.widen(vars)?;
         self.analysis.widen(vars)?;
-        lengthen(&mut self.near, vars, 0)
+        self.queue.widen(vars)
     }
 
     /// A literal's value.
@@ -149,39 +147,17 @@ impl Search {
         self.back_to(0)?;
         let vars = store.codes() as usize / 2;
         self.widen(vars)?;
-        for _ in 0..vars {
-            if self.order.pick(&self.trail.values).is_none() {
-                break;
-            }
-        }
-        self.order.begin(vars, vars)?;
-        self.turn = self.turn.wrapping_add(1);
+        self.queue.begin();
         self.is_open = false;
-        for var in question {
-            self.order.lift(*var as usize);
-            self.admit(*var)?;
+        self.own.clear();
+        self.own.extend_from_slice(question)?;
+        self.own.sort()?;
+        for i in 0..self.own.len() {
+            let var = item(&self.own, i);
+            self.queue.push_front(var);
         }
+        self.queue.rewind();
         Ok(())
-    }
-
-    // Has a variable be among those that are decided.
-    fn admit(&mut self, var: u32) -> Result<(), AllocError> {
-        put(&mut self.near, var as usize, self.turn);
-        if self.trail.value(var.saturating_mul(2)) != Value::Free {
-            return Ok(());
-        }
-        let lit = self.by_phase(var as usize);
-        self.order.release(lit)
-    }
-
-    // A variable's literal that was true last.
-    fn by_phase(&self, var: usize) -> u32 {
-        let code = u32::try_from(var.saturating_mul(2)).unwrap_or(0);
-        if self.order.phase_of(var) {
-            code
-        } else {
-            complement(code)
-        }
     }
 
     // Takes back what stands above a level.
@@ -190,9 +166,7 @@ impl Search {
             let Some(lit) = self.trail.take_back(level) else {
                 break;
             };
-            if item(&self.near, lit as usize / 2) == self.turn {
-                self.order.release(lit)?;
-            }
+            self.queue.release(lit);
         }
         self.trail.close(level);
         self.head = self.head.min(self.trail.lits.len());
@@ -347,11 +321,11 @@ impl Search {
             let lit = if level == 0 { a } else { b };
             return self.suppose(lit);
         }
-        let Some(var) = self.pick()? else {
+        let Some(var) = self.pick() else {
             return Ok(Next::Nothing);
         };
         self.trail.open()?;
-        let lit = self.by_phase(var);
+        let lit = self.queue.by_phase(var);
         self.trail.assign(lit, NONE)?;
         Ok(Next::Decided)
     }
@@ -370,21 +344,22 @@ impl Search {
     }
 
     // A variable that is to be decided.
-    fn pick(&mut self) -> Result<Option<usize>, AllocError> {
-        if let Some(var) = self.order.pick(&self.trail.values) {
-            return Ok(Some(var));
+    fn pick(&mut self) -> Option<u32> {
+        if let Some(var) = self.queue.pick(&self.trail.values) {
+            return Some(var);
         }
         if self.is_open {
-            return Ok(None);
+            return None;
         }
         self.is_open = true;
         for i in 0..self.beside.len() {
             let var = item(&self.beside, i);
-            if item(&self.near, var as usize) != self.turn {
-                self.admit(var)?;
+            if !self.queue.has(var) {
+                self.queue.push_back(var);
             }
         }
-        Ok(self.order.pick(&self.trail.values))
+        self.queue.rewind();
+        self.queue.pick(&self.trail.values)
     }
 
     // Learns from a clause that is false, on a level above those of the two literals.
@@ -414,9 +389,8 @@ impl Search {
     // Raises the variables that analysis met.
     fn raise(&mut self) {
         for var in self.analysis.met.as_slice() {
-            self.order.raise(*var as usize);
+            self.queue.raise(*var);
         }
-        self.order.grow();
     }
 
     // On how many levels the literals of a clause stand.

@@ -137,7 +137,7 @@ impl KeptSolver {
         self.search.add_beside(var)
     }
 
-    /// Turns to questions that rest on these variables: the search decides them alone, the greatest first, and implies what it implies.
+    /// Turns to questions that rest on these variables: the search decides them alone, the greatest first.
     pub fn turn_to(&mut self, variables: &[u32]) -> Result<(), AllocError>
         ensures { self.new ≡ self.old }
     {
