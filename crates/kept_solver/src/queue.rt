@@ -71,8 +71,8 @@ impl Queue {
         self.lowest = MIDDLE;
     }
 
-    /// Whether a variable is listed.
-    pub fn has(&self, var: u32) -> bool {
+    // Whether a variable is listed.
+    fn has(&self, var: u32) -> bool {
         item(&self.listed, var as usize) == self.question
     }
 
@@ -90,11 +90,17 @@ impl Queue {
         }
     }
 
-    /// Lists a variable at the front.
+    /// Lists a variable at the front, where it isn't listed and there is room for it.
     pub fn push_front(&mut self, var: u32) {
+        if (var as usize) < self.listed.len() && !self.has(var) {
+            put(&mut self.listed, var as usize, self.question);
+            self.link_front(var);
+        }
+    }
+
+    fn link_front(&mut self, var: u32) {
         self.highest = self.highest.saturating_add(1);
         self.set_rank(var, self.highest);
-        put(&mut self.listed, var as usize, self.question);
         put(&mut self.forward, var as usize, NONE);
         put(&mut self.backward, var as usize, self.front);
         if self.front == NONE {
@@ -105,8 +111,11 @@ impl Queue {
         self.front = var;
     }
 
-    /// Lists a variable at the back.
+    /// Lists a variable at the back, where it isn't listed and there is room for it.
     pub fn push_back(&mut self, var: u32) {
+        if (var as usize) >= self.listed.len() || self.has(var) {
+            return;
+        }
         self.lowest = self.lowest.saturating_sub(1);
         self.set_rank(var, self.lowest);
         put(&mut self.listed, var as usize, self.question);
@@ -145,7 +154,7 @@ impl Queue {
             self.cursor = item(&self.forward, var as usize);
         }
         self.unlink(var);
-        self.push_front(var);
+        self.link_front(var);
     }
 
     /// Begins to look for variables without a value at the front.

@@ -354,9 +354,7 @@ impl Search {
         self.is_open = true;
         for i in 0..self.beside.len() {
             let var = item(&self.beside, i);
-            if !self.queue.has(var) {
-                self.queue.push_back(var);
-            }
+            self.queue.push_back(var);
         }
         self.queue.rewind();
         self.queue.pick(&self.trail.values)
@@ -468,6 +466,7 @@ impl Search {
         ensures { store.new.given ≡ store.old.given }
     {
         self.back_to(0)?;
+        self.widen(store.codes() as usize / 2)?;
         let mut found = if self.broken == NONE {
             self.attach_all(store)?
         } else {

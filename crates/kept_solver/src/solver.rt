@@ -144,11 +144,12 @@ impl KeptSolver {
         self.search.turn_to(&self.store, variables)
     }
 
-    /// Whether two literals can be true together.
+    /// Whether two literals, of two variables, can be true together.
     pub fn decide(&mut self, a: u32, b: u32) -> Result<Outcome, AllocError>
         ensures kept { self.new ≡ self.old }
         ensures outcome { IfOk result (IsOutcome self.old a b) }
     {
+        make_room(&mut self.store, greater(a, b))?;
         match self.search.run(&mut self.store, a, b)? {
             Ending::Refuted => Ok(refuted_by_last(&self.store, a, b)),
             Ending::Found => Ok(Outcome::Model),

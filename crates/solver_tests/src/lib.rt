@@ -1,4 +1,4 @@
-//! Tests of rows, clauses, the solver, derivations, their checker, and DIMACS texts.
+//! Tests of rows, clauses, the solvers, derivations, their checker, and DIMACS texts.
 //! They stand in a crate of their own, so that each library is proved once.
 #![tactic(auto)]
 
@@ -12,6 +12,8 @@ mod derivations;
 mod formulas;
 #[cfg(test)]
 mod guidance;
+#[cfg(test)]
+mod keeping;
 #[cfg(test)]
 mod resolving;
 #[cfg(test)]
