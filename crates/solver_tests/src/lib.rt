@@ -1,4 +1,4 @@
-//! Tests of rows, clauses, the solvers, derivations, their checker, and DIMACS texts.
+//! Tests of rows, clauses, the solvers, the one over a graph's nodes, derivations, their checker, and DIMACS texts.
 //! They stand in a crate of their own, so that each library is proved once.
 #![tactic(auto)]
 
@@ -8,6 +8,8 @@ mod checking;
 mod clauses;
 #[cfg(test)]
 mod derivations;
+#[cfg(test)]
+mod facts;
 #[cfg(test)]
 mod formulas;
 #[cfg(test)]
