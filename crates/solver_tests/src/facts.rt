@@ -85,7 +85,12 @@ fn rows_under(pattern: &Pattern) -> u64 {
     for at in pattern.leaves.as_slice() {
         let leaf = at.leaf as usize;
         if leaf >= 1 && leaf <= 6 {
-            rows = rows & if at.value { ROWS[leaf - 1] } else { !ROWS[leaf - 1] };
+            rows = rows
+                & if at.value {
+                    ROWS[leaf - 1]
+                } else {
+                    !ROWS[leaf - 1]
+                };
         }
     }
     rows
@@ -111,7 +116,7 @@ fn is_right(
     }
 }
 
-// Whether all pairs of literals are, and all pairs of one with a complement.
+// Whether all pairs of literals of two nodes are, and all pairs of one with a complement.
 fn are_right(
     alloc: Global,
     asked: &mut Asked,
@@ -124,9 +129,11 @@ fn are_right(
                 lit: b.lit.not(),
                 rows: !b.rows,
             };
-            if !is_right(alloc, asked, held, *a, *b)?
-                || !is_right(alloc, asked, held, *a, other)?
-            {
+            let is_asked = a.lit.var() != b.lit.var();
+            if is_asked && !is_right(alloc, asked, held, *a, *b)? {
+                return Ok(false);
+            }
+            if is_asked && !is_right(alloc, asked, held, *a, other)? {
                 return Ok(false);
             }
         }
@@ -233,9 +240,7 @@ fn is_right_of(alloc: Global, seed: u32) -> Result<bool, AllocError> {
 }
 
 #[test]
-fn literals_are_equal_where_the_facts_say_so_and_nowhere_else(
-    rt: HostRuntime,
-) -> Result<(), Fail> {
+fn literals_are_equal_where_the_facts_say_so_and_nowhere_else(rt: HostRuntime) -> Result<(), Fail> {
     for seed in 0..12 {
         assert!(rt; is_right_of(rt.alloc(), seed)?);
     }
