@@ -70,8 +70,16 @@ impl Asked {
         self.solver.difference(alloc, &self.graph, a, b)
     }
 
-    fn clear(&mut self) -> Result<(), AllocError> {
-        self.solver.clear()
+    fn cleared(self) -> Result<Asked, AllocError> {
+        let Asked { graph, mut solver } = self;
+        match solver.clear() {
+            Ok(()) => Ok(Asked { graph, solver }),
+            Err(error) => {
+                drop(graph);
+                drop(solver);
+                Err(error)
+            }
+        }
     }
 
     fn whole_model(&self, alloc: Global) -> Result<Pattern, AllocError> {
@@ -206,7 +214,7 @@ fn grow(
     Ok(())
 }
 
-// Whether questions are answered as they must be between facts that are drawn, and so they are once all is forgotten.
+// Whether questions are answered as they must be between facts that are drawn.
 fn is_right_throughout(
     alloc: Global,
     asked: &mut Asked,
@@ -225,18 +233,42 @@ fn is_right_throughout(
         asked.assume(a.lit, b.lit)?;
         held = held & !(a.rows ^ b.rows);
     }
-    let before = are_right(alloc, asked, held, known)?;
-    asked.clear()?;
-    Ok(before && are_right(alloc, asked, u64::MAX, known)?)
+    are_right(alloc, asked, held, known)
 }
 
-// Whether they are in a graph that is drawn.
+// Whether they are, and so they are once all is forgotten.
+fn is_right_twice(
+    alloc: Global,
+    asked: Asked,
+    known: &[Known],
+    seed: u32,
+) -> Result<bool, AllocError> {
+    let mut asked = asked;
+    let before = is_right_throughout(alloc, &mut asked, known, seed);
+    let mut asked = asked.cleared()?;
+    let after = are_right(alloc, &mut asked, u64::MAX, known);
+    drop(asked);
+    Ok(before? && after?)
+}
+
+// The leaves and gates of a graph that is drawn.
+fn drawn_graph(alloc: Global, known: &mut Vec<Known>, seed: u32) -> Result<Graph, AllocError> {
+    let mut graph = Graph::new(alloc, 127)?;
+    match grow(&mut graph, known, 16, seed) {
+        Ok(()) => Ok(graph),
+        Err(error) => {
+            drop(graph);
+            Err(error)
+        }
+    }
+}
+
+// Whether all comes out in a graph that is drawn.
 fn is_right_of(alloc: Global, seed: u32) -> Result<bool, AllocError> {
     let mut known = Vec::new(alloc);
-    let mut graph = Graph::new(alloc, 127)?;
-    grow(&mut graph, &mut known, 16, seed)?;
-    let mut asked = Asked::new(alloc, graph)?;
-    is_right_throughout(alloc, &mut asked, known.as_slice(), seed)
+    let graph = drawn_graph(alloc, &mut known, seed)?;
+    let asked = Asked::new(alloc, graph)?;
+    is_right_twice(alloc, asked, known.as_slice(), seed)
 }
 
 #[test]
