@@ -1,7 +1,6 @@
 //! The solver over a graph's nodes, asked between facts. What holds of six leaves is tried on all their rows, as the bits of a word.
-ghost use Rattle.std.specs.Prelude.{IfOk};
-ghost use Rattle.graph_solver.specs.Known.{IsKept};
 
+use crate::keeping::{drawn, rows_of};
 use and_graph::{Graph, Pattern};
 use circ_model::Lit;
 use graph_solver::{Answer, GraphSolver};
@@ -11,21 +10,20 @@ use std::test::Fail;
 
 const LEAVES: u32 = 6;
 
-// The rows in which the leaves are true.
-const ROWS: [u64; 6] = [
-    0xAAAA_AAAA_AAAA_AAAA,
-    0xCCCC_CCCC_CCCC_CCCC,
-    0xF0F0_F0F0_F0F0_F0F0,
-    0xFF00_FF00_FF00_FF00,
-    0xFFFF_0000_FFFF_0000,
-    0xFFFF_FFFF_0000_0000,
-];
-
 // A literal, and the rows in which it is true.
 #[derive(Clone, Copy)]
 struct Known {
     lit: Lit,
     rows: u64,
+}
+
+impl Known {
+    fn complement(self) -> Known {
+        Known {
+            lit: self.lit.not(),
+            rows: !self.rows,
+        }
+    }
 }
 
 // A graph that grows no more, and what is asked of it.
@@ -91,14 +89,9 @@ impl Asked {
 fn rows_under(pattern: &Pattern) -> u64 {
     let mut rows = u64::MAX;
     for at in pattern.leaves.as_slice() {
-        let leaf = at.leaf as usize;
-        if leaf >= 1 && leaf <= 6 {
-            rows = rows
-                & if at.value {
-                    ROWS[leaf - 1]
-                } else {
-                    !ROWS[leaf - 1]
-                };
+        if at.leaf >= 1 && at.leaf <= LEAVES {
+            let lit = 2 * (at.leaf - 1) + if at.value { 0 } else { 1 };
+            rows = rows & rows_of(lit);
         }
     }
     rows
@@ -133,25 +126,16 @@ fn are_right(
 ) -> Result<bool, AllocError> {
     for a in known {
         for b in known {
-            let other = Known {
-                lit: b.lit.not(),
-                rows: !b.rows,
-            };
             let is_asked = a.lit.var() != b.lit.var();
             if is_asked && !is_right(alloc, asked, held, *a, *b)? {
                 return Ok(false);
             }
-            if is_asked && !is_right(alloc, asked, held, *a, other)? {
+            if is_asked && !is_right(alloc, asked, held, *a, b.complement())? {
                 return Ok(false);
             }
         }
     }
     Ok(true)
-}
-
-// The next of the numbers that are drawn.
-fn drawn(seed: u32) -> u32 {
-    seed.wrapping_mul(1664525).wrapping_add(1013904223)
 }
 
 // One of the literals that are known, or its complement.
@@ -164,13 +148,7 @@ fn picked(known: &[Known], seed: u32) -> Known {
         };
     }
     let at = known[number / 2 % known.len()];
-    if number % 2 == 0 {
-        return at;
-    }
-    Known {
-        lit: at.lit.not(),
-        rows: !at.rows,
-    }
+    if number % 2 == 0 { at } else { at.complement() }
 }
 
 // Adds a gate over two literals that are known.
@@ -199,10 +177,10 @@ fn grow(
     gates: u32,
     seed: u32,
 ) -> Result<(), AllocError> {
-    for rows in ROWS {
+    for n in 0..LEAVES {
         known.push(Known {
             lit: graph.leaf()?,
-            rows,
+            rows: rows_of(2 * n),
         })?;
     }
     let mut number = seed;

@@ -78,7 +78,7 @@ fn where_the_clauses_contradict_each_other_all_is_refuted(rt: HostRuntime) -> Re
 }
 
 // The rows in which a literal is true.
-fn rows_of(lit: u32) -> u64 {
+pub(crate) fn rows_of(lit: u32) -> u64 {
     let rows = match lit / 2 {
         0 => 0xAAAA_AAAA_AAAA_AAAA,
         1 => 0xCCCC_CCCC_CCCC_CCCC,
@@ -130,7 +130,7 @@ fn are_right(solver: &mut KeptSolver, rows: u64) -> Result<bool, AllocError> {
 }
 
 // The next of the numbers that are drawn.
-fn drawn(seed: u32) -> u32 {
+pub(crate) fn drawn(seed: u32) -> u32 {
     seed.wrapping_mul(1664525).wrapping_add(1013904223)
 }
 
